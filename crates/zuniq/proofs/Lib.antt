@@ -1,0 +1,5 @@
+pub mod Basics
+pub mod Table
+pub mod Ranges
+pub mod Codec
+pub mod Zeros
