@@ -1,6 +1,6 @@
 -- The answer words of the C functions, and what a call leaves behind its `&mut` numbers: "extern "C" entry points for the
 -- Rust ingest process and the differential runs". A refusal, or that there is nothing, leaves them as they were.
-use mathlib.Core.Bool.{Bool, true, false}
+use mathlib.Core.Bool.{true, false}
 use Prim.Native.Nat.{ℕ, _+_, _*_, _%_, _^_}
 use Rattle.zuniq.specs.Refusals.{numberOf, placeOf}
 use Rattle.zuniq.specs.declared.refusal.Refusal.{Refusal}

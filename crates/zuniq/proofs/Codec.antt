@@ -1,13 +1,12 @@
 -- The laws of coding: what is encoded decodes again, and nothing else decodes. Over any largest depth K.
 -- Assumes nothing.
 use mathlib.Core.Path.{_≡_, refl, ap, sym, _∙_, subst}
-use mathlib.Core.Bool.{Bool, true, false, _&&_, cond, false≢true}
+use mathlib.Core.Bool.{Bool, true, false, cond}
 use mathlib.Core.Logic.{_↔_, _⊎_, inl, inr}
-use Prim.Native.Nat.{ℕ, zero, suc, _+_, _*_, _≤_, _<_, _/_, _%_, _-_, _^_}
+use Prim.Native.Nat.{ℕ, zero, suc, _+_, _*_, _≤_, _<_, _/_, _-_, _^_}
 use native.Mathlib.Omega.{arith}
-use native.Mathlib.Nat.{pow-suc, mul-assoc, mul-div-cancel, one-le-pow, eq-of-mul-eq-mul-right, mul-lt-mul-of-pos-right, lt-of-mul-lt-mul-right, eq-or-lt-of-le, le-of-suc-le-suc}
+use native.Mathlib.Nat.{pow-suc, mul-assoc, mul-div-cancel, eq-of-mul-eq-mul-right, eq-or-lt-of-le, le-of-suc-le-suc}
 use lib.Dec.{eqb, ltb, leb}
-use lib.Pow.{pow-add}
 use Rattle.zuniq.proofs.Basics.{and-is-true, four-pow-pos, four-pow-split}
 use borrow.Author.Tests.{lt-ltb, ltb-true, ltb-false, eq-eqb, eqb-true, le-ltb, lt-leb, leb-false}
 use Rattle.zuniq.specs.Cells.{nHash}

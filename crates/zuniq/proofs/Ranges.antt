@@ -5,7 +5,7 @@
 -- has exactly if the range ends within the sky. Assumes nothing.
 use mathlib.Core.Path.{_≡_, refl, sym, _∙_}
 use mathlib.Core.Bool.{true, false, or-true, or-comm, or-self, false≢true}
-use mathlib.Core.Logic.{_≢_, _⊎_, inl, inr, ⊎-elim, ⊎-map, _↔_}
+use mathlib.Core.Logic.{_≢_, _⊎_, inl, ⊎-elim, ⊎-map, _↔_}
 use Prim.Native.Nat.{ℕ, suc, _+_, _*_, _≤_, _<_, _/_, _%_, _-_, _^_}
 use native.Mathlib.Nat.{mul-le-mul-right, mul-lt-mul-of-pos-right, le-of-mul-le-mul-right, lt-of-mul-lt-mul-right}
 use native.Mathlib.Nat.{pow-suc, pow-le-pow-right, div-one, div-mul-le-self, lt-div-mul-add, div-eq-of-lt-le, div-div-eq-div-mul}

@@ -1,10 +1,10 @@
 -- The trailing zeros of a zuniq tell its depth: they are even, two for each depth between the cell's and the largest.
 -- Over any largest depth K and any width w of the type. Assumes nothing.
-use mathlib.Core.Path.{_≡_, refl, ap, sym, _∙_, subst}
+use mathlib.Core.Path.{_≡_, refl, ap, sym, _∙_}
 use Prim.Native.Nat.{ℕ, zero, suc, _+_, _*_, _≤_, _<_, _/_, _%_, _-_, _^_}
 use native.Mathlib.Omega.{arith}
-use native.Mathlib.Nat.{pow-suc, mul-assoc, mul-one, div-one, div-div-eq-div-mul}
-use lib.Pow.{pow-add, shr-shr, shl-shr}
+use native.Mathlib.Nat.{pow-suc, mul-assoc, mul-one}
+use lib.Pow.{shr-shr, shl-shr}
 use lib.Count.{trailingZeros, under}
 use Rattle.zuniq.specs.Cells.{nHash}
 use Rattle.zuniq.specs.Codec.{zuniq, IsZuniqOf}

@@ -1,5 +1,5 @@
 -- `Zuniq64::to_zuniq_unchecked` meets its contract: nothing is shifted out. Assumes nothing.
-use mathlib.Core.Path.{_≡_, refl, ap, sym, _∙_}
+use mathlib.Core.Path.{_≡_, refl}
 use Prim.Native.Nat.{ℕ, _+_, _*_, _-_, _^_, _≤_, _<_}
 use native.Mathlib.Omega.{arith}
 use native.Mathlib.Nat.{mod-eq-of-lt, le-mul-of-pos-right, lt-of-le-of-lt}

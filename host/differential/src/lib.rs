@@ -1,0 +1,9 @@
+//! Compares the proved functions of libmom_c.a with the original Rust, in one process.
+//!
+//! A kind of comparison is a file in `kinds/` that implements [`compare::Kind`] and a line of
+//! [`kinds::KINDS`].
+
+pub mod cells;
+pub mod compare;
+pub mod kinds;
+pub mod random;

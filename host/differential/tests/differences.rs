@@ -1,0 +1,124 @@
+//! Every intended difference from the original, outside valid values, at its smallest input: what
+//! the original does where its arithmetic panics (`checked`) and where it wraps (`release`), and
+//! what ours answers.
+
+use std::{
+    fmt::Debug,
+    panic::{catch_unwind, AssertUnwindSafe},
+};
+
+use mom::Refusal;
+use oracle::run;
+
+/// The first number past the last zuniq that doesn't end in 60 or more zeros.
+const PAST_LAST: u64 = 6917529027641081857;
+
+fn refused<T>(number: u8, place: u64) -> Result<T, Refusal> {
+    Err(Refusal { number, place })
+}
+
+fn panics<T>(call: impl FnOnce() -> T) -> bool {
+    catch_unwind(AssertUnwindSafe(call)).is_err()
+}
+
+/// The call panics under `checked` and answers `wrapped` under `release`.
+fn assert_overflows<T: Debug + PartialEq>(call: impl FnOnce() -> T, wrapped: T) {
+    if cfg!(debug_assertions) {
+        assert!(panics(call));
+    } else {
+        assert_eq!(call(), wrapped);
+    }
+}
+
+#[test]
+fn n_hash_refuses_where_the_original_panics() {
+    assert!(panics(|| run::n_hash(30)));
+    assert_eq!(mom::n_hash(30), refused(1, 0));
+}
+
+/// The panic of the original's checked `to_zuniq` stands in our stand-in for its lib.rs.
+#[test]
+fn to_zuniq_refuses_a_depth_over_29() {
+    assert!(panics(|| run::to_zuniq(30, 0)));
+    assert_overflows(|| run::to_zuniq_unsafe(30, 0), 1 << 62);
+    assert_overflows(|| run::trait_to_zuniq(30, 0u64), 1 << 62);
+    assert_eq!(mom::to_zuniq(30, 0), refused(1, 0));
+}
+
+/// Depth 61 is the first whose wrapped shift is 0, so that it gives the zuniq of (29, 0).
+#[test]
+fn to_zuniq_gives_no_cell_of_another_depth() {
+    assert_overflows(|| run::to_zuniq_unsafe(61, 0), 1);
+    assert_overflows(|| run::trait_to_zuniq(61, 0u64), 1);
+    assert_eq!(mom::to_zuniq(61, 0), refused(1, 0));
+}
+
+#[test]
+fn to_zuniq_refuses_a_hash_out_of_range() {
+    let answered = 25 << 58;
+    assert_eq!(run::to_zuniq(0, 12), answered);
+    assert_eq!(run::trait_to_zuniq(0, 12u64), answered);
+    assert_eq!(mom::from_zuniq(answered), None);
+    assert_eq!(mom::to_zuniq(0, 12), refused(7, 0));
+}
+
+/// A shift that loses bits is no overflow to Rust: (0, 32) gets the zuniq of (0, 0), and at the
+/// largest depth (29, 2^63) gets that of (29, 0).
+#[test]
+fn to_zuniq_loses_no_bits() {
+    for (depth, hash) in [(0, 32), (29, 1 << 63)] {
+        let of_first = run::to_zuniq(depth, 0);
+        assert_eq!(run::to_zuniq(depth, hash), of_first);
+        assert_eq!(run::trait_to_zuniq(depth, hash), of_first);
+        assert_eq!(mom::to_zuniq(depth, hash), refused(7, 0));
+    }
+}
+
+#[test]
+fn from_zuniq_of_0_and_of_60_or_more_trailing_zeros_is_none() {
+    let wrapped = [
+        (0, (253, 0)),
+        (1 << 60, (255, 0)),
+        (3 << 61, (255, 1)),
+        (1 << 63, (254, 1 << 63)),
+    ];
+    for (zuniq, cell) in wrapped {
+        assert_overflows(|| run::from_zuniq(zuniq), cell);
+        assert_overflows(|| run::trait_from_zuniq(zuniq), cell);
+        assert_eq!(mom::from_zuniq(zuniq), None);
+    }
+}
+
+#[test]
+fn from_zuniq_of_an_odd_number_of_trailing_zeros_is_none() {
+    for (zuniq, cell) in [(2, (29, 0)), (1 << 59, (0, 0))] {
+        assert_eq!(run::from_zuniq(zuniq), cell);
+        assert_eq!(run::trait_from_zuniq(zuniq), cell);
+        assert_ne!(run::to_zuniq(cell.0, cell.1), zuniq);
+        assert_eq!(mom::from_zuniq(zuniq), None);
+    }
+}
+
+#[test]
+fn from_zuniq_past_the_last_one_is_none() {
+    let out_of_range = (29, run::n_hash(29));
+    assert_eq!(run::from_zuniq(PAST_LAST), out_of_range);
+    assert_eq!(run::trait_from_zuniq(PAST_LAST), out_of_range);
+    assert_eq!(mom::from_zuniq(PAST_LAST), None);
+}
+
+#[test]
+fn are_overlapping_refuses_what_overflows() {
+    for (left, right, place) in [(0, 0, 0), (0, 1, 0), (1, 0, 1), (1, 1 << 60, 1)] {
+        assert_overflows(|| run::are_overlapping(left, right), true);
+        assert_eq!(mom::are_overlapping(left, right), refused(12, place));
+    }
+}
+
+#[test]
+fn are_overlapping_refuses_what_is_no_zuniq() {
+    for (left, right, place) in [(1, 2, 1), (2, 1, 0), (PAST_LAST, PAST_LAST, 0)] {
+        assert!(run::are_overlapping(left, right));
+        assert_eq!(mom::are_overlapping(left, right), refused(12, place));
+    }
+}

@@ -1,0 +1,63 @@
+/* The C functions of libmom_c.a: cells of multi-order maps and their zuniqs.
+ *
+ * A cell is a depth d, 0 to 29, and a hash h below N(d) = 12 * 4^d (HEALPix, nested). Its zuniq is
+ * (2h + 1) * 4^(29 - d), a u64; no other u64 is a valid zuniq.
+ *
+ * Every function answers one word. Its high byte is the code:
+ *
+ *     0          accepted; the low 56 bits hold the answer, where the function says one
+ *     1 to 64    refused: the code is the refusal's number, the low 56 bits its place, from 0
+ *     MOM_NONE   there is no cell
+ *
+ * What doesn't fit into the word goes through a pointer. Such a number is written on acceptance
+ * alone: by a refusal, and by MOM_NONE, it is left as it was. No pointer may be null, and no two
+ * pointers of one call may overlap. No function keeps a pointer or has a state, so any number of
+ * threads may call.
+ *
+ * Link with -lmom_c. The archive is made by `rt staticlib mom_c`.
+ */
+#ifndef MOM_H
+#define MOM_H
+
+#include <stdint.h>
+
+#ifdef __cplusplus
+extern "C" {
+#endif
+
+/* The codes of an answer that are no refusal. */
+#define MOM_ACCEPTED 0
+#define MOM_NONE 65
+
+/* The numbers of the refusals that these functions give. */
+#define MOM_DEPTH_OVER_29 1
+#define MOM_HASH_OUT_OF_RANGE 7
+#define MOM_NOT_A_ZUNIQ 12
+
+/* The code of an answer: MOM_ACCEPTED, a refusal's number or MOM_NONE. */
+static inline uint8_t mom_code(uint64_t word) { return (uint8_t)(word >> 56); }
+
+/* The low 56 bits of an answer: the value of an accepted call or the place of a refusal. */
+static inline uint64_t mom_value(uint64_t word) { return word & UINT64_C(0x00ffffffffffffff); }
+
+/* *n_hash = N(depth), the number of cells at that depth.
+ * Refuses by 1: the depth is over 29. */
+uint64_t mom_n_hash(uint8_t depth, uint64_t *n_hash);
+
+/* *zuniq = the zuniq of the cell (depth, hash).
+ * Refuses by 1: the depth is over 29; then by 7: the hash is N(depth) or more. */
+uint64_t mom_to_zuniq(uint8_t depth, uint64_t hash, uint64_t *zuniq);
+
+/* *depth and *hash = the cell of the zuniq; MOM_NONE where the number isn't a valid zuniq.
+ * Refuses nothing. */
+uint64_t mom_from_zuniq(uint64_t zuniq, uint8_t *depth, uint64_t *hash);
+
+/* The value is 1 where the two cells are equal or one lies inside the other, else 0.
+ * Refuses by 12: one of the two isn't a valid zuniq; place 0 is the left one, 1 the right one. */
+uint64_t mom_are_overlapping(uint64_t zuniq_l, uint64_t zuniq_r);
+
+#ifdef __cplusplus
+}
+#endif
+
+#endif

@@ -1,0 +1,79 @@
+//! Every small cell, and every number one bit away from a zuniq, against the definitions of the
+//! scope's section 1, written here as they are read there.
+
+use mom::{are_overlapping, from_zuniq, to_zuniq};
+
+type Cell = (u8, u64);
+
+fn zuniq((d, h): Cell) -> u64 {
+    (2 * h + 1) * 4u64.pow(29 - d as u32)
+}
+
+/// "A zuniq is valid if it equals that for some d and h in range."
+fn cell_of(z: u64) -> Option<Cell> {
+    (0..=29).find_map(|d| {
+        let width = 4u64.pow(29 - d as u32);
+        let h = z / width / 2;
+        (h < 12 << (2 * d) && zuniq((d, h)) == z).then_some((d, h))
+    })
+}
+
+/// "(d, h) lies in (e, g) if d ≥ e and floor(h / 4^(d−e)) = g."
+fn lies_in((d, h): Cell, (e, g): Cell) -> bool {
+    d >= e && h / 4u64.pow((d - e) as u32) == g
+}
+
+fn cells_to(depth: u8) -> Vec<Cell> {
+    (0..=depth)
+        .flat_map(|d| (0..12 << (2 * d)).map(move |h| (d, h)))
+        .collect()
+}
+
+/// The cells of depths 0 to 3, and the first, the middle and the last ones of every depth.
+fn cells() -> Vec<Cell> {
+    let of_every_depth = (0..=29).flat_map(|d| {
+        let n = 12u64 << (2 * d);
+        [0, 1, n / 2 - 1, n / 2, n - 2, n - 1].map(|h| (d, h))
+    });
+    cells_to(3).into_iter().chain(of_every_depth).collect()
+}
+
+#[test]
+fn no_cell_fails_to_come_back() {
+    for (depth, hash) in cells() {
+        assert_eq!(to_zuniq(depth, hash), Ok(zuniq((depth, hash))));
+        assert_eq!(from_zuniq(zuniq((depth, hash))), Some((depth, hash)));
+    }
+}
+
+#[test]
+fn no_two_cells_overlap_but_by_lying_in_each_other() {
+    let cells = cells_to(3);
+    for &l in &cells {
+        for &r in &cells {
+            let overlap = lies_in(l, r) || lies_in(r, l);
+            assert_eq!(
+                are_overlapping(zuniq(l), zuniq(r)),
+                Ok(overlap),
+                "{l:?} {r:?}"
+            );
+        }
+    }
+}
+
+#[test]
+fn no_number_of_another_form_decodes() {
+    for cell in cells() {
+        for bit in 0..64 {
+            let z = zuniq(cell) ^ (1 << bit);
+            assert_eq!(from_zuniq(z), cell_of(z), "{z}");
+        }
+    }
+}
+
+#[test]
+fn no_small_number_of_another_form_decodes() {
+    for z in 0..100_000 {
+        assert_eq!(from_zuniq(z), cell_of(z), "{z}");
+    }
+}

@@ -1,0 +1,254 @@
+//! Calls of the originals, section by section of the scope, with no logic of our own beyond the
+//! closures that the scope defines. `Z` is u64 or u32, the two zuniq types of the original.
+//!
+//! A call panics where the original does: under `checked` where its arithmetic overflows.
+
+use crate::nested::{
+    self,
+    map::{
+        mom::{
+            impls::{
+                bslice::{MomSliceImpl, V4FITS, Z4FITS},
+                zvec::MomVecImpl,
+            },
+            new_chi2_count_merger_with_depth_threshold, new_chi2_density_merger, LhsRhsBoth, Mom,
+            WritableMom, ZUniqHashT,
+        },
+        skymap::SkyMapValue,
+    },
+};
+
+// ---- Section 1: cells and zuniq
+
+/// `n_hash` of nested/mod.rs. The table that it reads is made by our stand-in for lib.rs.
+pub fn n_hash(depth: u8) -> u64 {
+    nested::n_hash(depth)
+}
+
+/// `to_zuniq` of nested/mod.rs: a panic of our stand-in for lib.rs at a depth over 29, then
+/// `to_zuniq_unsafe`.
+pub fn to_zuniq(depth: u8, hash: u64) -> u64 {
+    nested::to_zuniq(depth, hash)
+}
+
+pub fn to_zuniq_unsafe(depth: u8, hash: u64) -> u64 {
+    nested::to_zuniq_unsafe(depth, hash)
+}
+
+/// `from_zuniq` of nested/mod.rs.
+pub fn from_zuniq(zuniq: u64) -> (u8, u64) {
+    nested::from_zuniq(zuniq)
+}
+
+/// `ZUniqHashT::to_zuniq`, which everything in mom/ uses.
+pub fn trait_to_zuniq<Z: ZUniqHashT>(depth: u8, hash: Z) -> Z {
+    Z::to_zuniq(depth, hash)
+}
+
+/// `ZUniqHashT::from_zuniq`, which everything in mom/ uses.
+pub fn trait_from_zuniq<Z: ZUniqHashT>(zuniq: Z) -> (u8, Z) {
+    Z::from_zuniq(zuniq)
+}
+
+pub fn are_overlapping<Z: ZUniqHashT>(zuniq_l: Z, zuniq_r: Z) -> bool {
+    Z::are_overlapping(zuniq_l, zuniq_r)
+}
+
+// ---- Section 2: mergers. `parent` is the parent's depth, `m` and `t` are the scope's M and T.
+
+/// The merged count, or none where the four are kept.
+pub fn merge_counts(parent: u8, m: u8, t: f64, counts: [u32; 4]) -> Option<u32> {
+    new_chi2_count_merger_with_depth_threshold::<u64, u32>(t, m)(parent, 0, counts).ok()
+}
+
+/// The merged density, or none where the four are kept.
+pub fn merge_densities(parent: u8, m: u8, t: f64, densities: [f64; 4]) -> Option<f64> {
+    new_chi2_density_merger::<u64, f64>(t, Some(m))(parent, 0, densities).ok()
+}
+
+pub fn chi_of_counts(parent: u8, counts: [u32; 4]) -> Option<f64> {
+    chi_by_bisection(|t| merge_counts(parent, 0, t, counts).is_some())
+}
+
+pub fn chi_of_densities(parent: u8, densities: [f64; 4]) -> Option<f64> {
+    chi_by_bisection(|t| merge_densities(parent, 0, t, densities).is_some())
+}
+
+/// The original keeps its chi to itself but merges exactly where chi < T, so that bisection on T
+/// finds it. None stands for NaN and for infinity, which no T exceeds; a zero is answered as +0.
+fn chi_by_bisection(merges_at: impl Fn(f64) -> bool) -> Option<f64> {
+    let infinity = f64::INFINITY.to_bits() as i128;
+    let (mut kept, mut merged) = (-1 - infinity, infinity);
+    if !merges_at(nth_f64(merged)) {
+        return None;
+    }
+    while merged - kept > 1 {
+        let middle = kept + (merged - kept) / 2;
+        if merges_at(nth_f64(middle)) {
+            merged = middle;
+        } else {
+            kept = middle;
+        }
+    }
+    Some(nth_f64(kept))
+}
+
+/// The floats in rising order: 0 is +0, 1 the least positive one, −1 is −0.
+fn nth_f64(n: i128) -> f64 {
+    f64::from_bits(if n >= 0 {
+        n as u64
+    } else {
+        1 << 63 | (-1 - n) as u64
+    })
+}
+
+// ---- Sections 3 and 6: the map check and lookup
+
+/// A map from its entries, unchecked.
+pub fn mom<Z: ZUniqHashT, V: SkyMapValue>(depth: u8, entries: Vec<(Z, V)>) -> MomVecImpl<Z, V> {
+    MomVecImpl::new(depth, entries)
+}
+
+pub fn check_is_mom<Z: ZUniqHashT, V: SkyMapValue>(mom: &MomVecImpl<Z, V>) -> Result<(), String> {
+    mom.check_is_mom()
+}
+
+pub fn get_cell_containing<Z: ZUniqHashT, V: SkyMapValue>(
+    mom: &MomVecImpl<Z, V>,
+    zuniq: Z,
+) -> Result<Option<(Z, V)>, String> {
+    mom.get_cell_containing(zuniq)
+        .map(|entry| entry.map(|(zuniq, value)| (zuniq, value.clone())))
+}
+
+pub fn get_copy_of_cell_containing<Z: ZUniqHashT, V: SkyMapValue>(
+    mom: &MomVecImpl<Z, V>,
+    zuniq: Z,
+) -> Result<Option<(Z, V)>, String> {
+    mom.get_copy_of_cell_containing(zuniq)
+}
+
+pub fn get_overlapped_cells<Z: ZUniqHashT, V: SkyMapValue>(
+    mom: &MomVecImpl<Z, V>,
+    zuniq: Z,
+) -> Vec<(Z, V)> {
+    mom.get_overlapped_cells(zuniq)
+        .map(|(zuniq, value)| (zuniq, value.clone()))
+        .collect()
+}
+
+// ---- Section 4: building from (hash, value) cells of depth `depth`
+
+pub fn build_counts<Z: ZUniqHashT>(
+    depth: u8,
+    m: u8,
+    t: f64,
+    cells: impl Iterator<Item = (Z, u32)>,
+) -> Vec<(Z, u32)> {
+    let merger = new_chi2_count_merger_with_depth_threshold(t, m);
+    MomVecImpl::from_hpx_sorted_entries(depth, cells, merger)
+        .owned_entries()
+        .collect()
+}
+
+pub fn build_densities<Z: ZUniqHashT>(
+    depth: u8,
+    m: u8,
+    t: f64,
+    cells: impl Iterator<Item = (Z, f64)>,
+) -> Vec<(Z, f64)> {
+    let merger = new_chi2_density_merger(t, Some(m));
+    MomVecImpl::from_hpx_sorted_entries(depth, cells, merger)
+        .owned_entries()
+        .collect()
+}
+
+// ---- Section 5: combining. The answer is the map's depth and its entries.
+
+/// "Splitting v gives each child floor(v/4), children 0 to (v mod 4) − 1 one more."
+fn split_count(count: u32) -> [u32; 4] {
+    [0, 1, 2, 3].map(|child| count / 4 + u32::from(child < count % 4))
+}
+
+/// "Alone: kept; both: sum."
+fn pool_rule(counts: LhsRhsBoth<u32>) -> Option<u32> {
+    Some(match counts {
+        LhsRhsBoth::Left(count) | LhsRhsBoth::Right(count) => count,
+        LhsRhsBoth::Both(left, right) => left + right,
+    })
+}
+
+pub fn pool<Z: ZUniqHashT>(
+    left: MomVecImpl<Z, u32>,
+    right: MomVecImpl<Z, u32>,
+    m: u8,
+    t: f64,
+) -> (u8, Vec<(Z, u32)>) {
+    let pooled = MomVecImpl::merge(
+        left,
+        right,
+        |_, _, count| split_count(count),
+        pool_rule,
+        new_chi2_count_merger_with_depth_threshold(t, m),
+    );
+    (pooled.depth_max(), pooled.owned_entries().collect())
+}
+
+pub fn product<Z: ZUniqHashT>(
+    left: MomVecImpl<Z, f64>,
+    right: MomVecImpl<Z, f64>,
+    k: f64,
+    m: u8,
+    t: f64,
+) -> (u8, Vec<(Z, f64)>) {
+    let product = MomVecImpl::lhs_time_rhs_time_cte_and_chi2merge_assuming_densities(
+        left,
+        right,
+        k,
+        t,
+        Some(m),
+    );
+    (product.depth_max(), product.owned_entries().collect())
+}
+
+// ---- Section 7: densities and rows
+
+/// The density of one count, through a map of the first cell at its depth.
+pub fn density<Z: ZUniqHashT>(count: u32, depth: u8) -> f64 {
+    let counts = mom(depth, vec![(Z::to_zuniq(depth, Z::zero()), count)]);
+    let densities = MomVecImpl::<Z, f64>::from_counts_to_densities(&counts);
+    let (_, density) = densities.owned_entries().next().unwrap();
+    density
+}
+
+/// `write_all_entries`: the bytes, and the number of them that the original reports.
+pub fn write_rows<Z: ZUniqHashT, V: SkyMapValue>(entries: Vec<(Z, V)>) -> (Vec<u8>, usize) {
+    let mut bytes = Vec::new();
+    let written = mom(0, entries).write_all_entries(&mut bytes).unwrap();
+    (bytes, written)
+}
+
+pub fn read_rows<Z: Z4FITS, V: V4FITS>(bytes: &[u8]) -> Vec<(Z, V)> {
+    MomSliceImpl::new(0, bytes).owned_entries().collect()
+}
+
+pub fn rows_check_is_mom<Z: Z4FITS, V: V4FITS>(depth: u8, bytes: &[u8]) -> Result<(), String> {
+    MomSliceImpl::<Z, V>::new(depth, bytes).check_is_mom()
+}
+
+pub fn rows_containing<Z: Z4FITS, V: V4FITS>(
+    depth: u8,
+    bytes: &[u8],
+    zuniq: Z,
+) -> Result<Option<(Z, V)>, String> {
+    MomSliceImpl::new(depth, bytes).get_copy_of_cell_containing(zuniq)
+}
+
+/// Only under `checked`, which panics at search place 0: there the wrapped place would have the
+/// original read before its bytes.
+#[cfg(debug_assertions)]
+pub fn rows_overlapped<Z: Z4FITS, V: V4FITS>(depth: u8, bytes: &[u8], zuniq: Z) -> Vec<(Z, V)> {
+    MomSliceImpl::new(depth, bytes)
+        .get_copy_of_overlapped_cells(zuniq)
+        .collect()
+}

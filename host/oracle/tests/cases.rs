@@ -1,0 +1,92 @@
+//! The scope's cases on the originals: they show that each call in `run` hands its arguments on in
+//! the right order.
+
+use oracle::run;
+
+fn zuniqs<V: Copy>(entries: &[(u8, u64, V)]) -> Vec<(u64, V)> {
+    entries
+        .iter()
+        .map(|&(depth, hash, value)| (run::to_zuniq(depth, hash), value))
+        .collect()
+}
+
+#[test]
+fn counts_merge_below_the_threshold_alone() {
+    assert_eq!(run::merge_counts(0, 0, 3.0, [1, 2, 4, 4]), None);
+    assert_eq!(run::merge_counts(0, 0, 3.5, [1, 2, 4, 4]), Some(11));
+    assert_eq!(run::merge_counts(0, 0, 5.0, [0, 0, 0, 5]), None);
+    assert_eq!(run::merge_counts(0, 0, 6.0, [0, 0, 0, 5]), Some(5));
+    assert_eq!(run::merge_counts(0, 0, 0.0, [4, 4, 4, 4]), None);
+    assert_eq!(run::merge_counts(0, 1, 6.0, [0, 0, 0, 5]), None);
+}
+
+#[test]
+fn bisection_finds_the_chi() {
+    assert_eq!(run::chi_of_counts(0, [1, 2, 4, 4]), Some(3.0));
+    assert_eq!(run::chi_of_counts(0, [0, 0, 0, 5]), Some(5.0));
+    assert_eq!(run::chi_of_counts(0, [4, 4, 4, 4]), Some(0.0));
+    assert_eq!(run::chi_of_densities(0, [f64::MAX; 4]), None);
+}
+
+#[test]
+fn full_quads_are_built_into_parents_no_shallower_than_m() {
+    let ones = || (0..16).map(|hash| (hash, 1));
+    assert_eq!(run::build_counts(2, 0, 3.5, ones()), zuniqs(&[(0, 0, 16)]));
+    let fours = zuniqs(&[(1, 0, 4), (1, 1, 4), (1, 2, 4), (1, 3, 4)]);
+    assert_eq!(run::build_counts(2, 1, 3.5, ones()), fours);
+    let straddling = (1u64..5).map(|hash| (hash, 1));
+    assert_eq!(run::build_counts(1, 0, 3.5, straddling).len(), 4);
+    assert_eq!(
+        run::build_densities(1, 0, 3.5, (0..4).map(|hash| (hash, 2.0))),
+        zuniqs(&[(0, 0, 2.0)])
+    );
+}
+
+#[test]
+fn the_pool_splits_the_larger_cell() {
+    let pool = |t| {
+        let left = run::mom(0, zuniqs(&[(0, 0, 10)]));
+        let right = run::mom(1, zuniqs(&[(1, 1, 3)]));
+        run::pool(left, right, 0, t)
+    };
+    let apart = zuniqs(&[(1, 0, 3), (1, 1, 6), (1, 2, 2), (1, 3, 2)]);
+    assert_eq!(pool(2.0), (1, apart));
+    assert_eq!(pool(3.5), (1, zuniqs(&[(0, 0, 13)])));
+}
+
+#[test]
+fn the_product_drops_what_is_alone() {
+    let left = run::mom(0, zuniqs(&[(0, 0, 2.0)]));
+    let right = run::mom(1, zuniqs(&[(1, 2, 3.0)]));
+    let both = (1, zuniqs(&[(1, 2, 6.0)]));
+    assert_eq!(run::product(left, right, 1.0, 0, 0.0), both);
+}
+
+#[test]
+fn a_map_is_checked_and_looked_up() {
+    let entries = zuniqs(&[(1, 0, 5), (1, 2, 7)]);
+    let mom = run::mom(1, entries.clone());
+    let third = entries[1];
+    assert_eq!(run::check_is_mom(&mom), Ok(()));
+    assert_eq!(run::get_cell_containing(&mom, third.0), Ok(Some(third)));
+    let none = run::get_copy_of_cell_containing(&mom, run::to_zuniq(1, 1));
+    assert_eq!(none, Ok(None));
+    assert_eq!(run::get_overlapped_cells(&mom, third.0), [third]);
+}
+
+#[test]
+fn rows_come_back() {
+    let entries = zuniqs(&[(0, 3, 7u32), (29, 10 << 58, 9)]);
+    let (bytes, written) = run::write_rows(entries.clone());
+    assert_eq!((bytes.len(), written), (24, 24));
+    assert_eq!(run::read_rows::<u64, u32>(&bytes), entries);
+    assert_eq!(run::rows_check_is_mom::<u64, u32>(0, &bytes), Ok(()));
+    let first = run::rows_containing::<u64, u32>(0, &bytes, entries[0].0);
+    assert_eq!(first, Ok(Some(entries[0])));
+}
+
+#[test]
+fn a_density_is_a_count_by_area() {
+    let area = 4.0 * std::f64::consts::PI / 12.0;
+    assert_eq!(run::density::<u64>(5, 0), 5.0 / area);
+}
