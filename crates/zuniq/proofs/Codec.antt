@@ -4,8 +4,8 @@ use mathlib.Core.Path.{_≡_, refl, ap, sym, _∙_, subst}
 use mathlib.Core.Bool.{Bool, true, false, cond}
 use mathlib.Core.Logic.{_↔_, _⊎_, inl, inr}
 use Prim.Native.Nat.{ℕ, zero, suc, _+_, _*_, _≤_, _<_, _/_, _-_, _^_}
-use native.Mathlib.Omega.{arith}
-use native.Mathlib.Nat.{pow-suc, mul-assoc, mul-div-cancel, eq-of-mul-eq-mul-right, eq-or-lt-of-le, le-of-suc-le-suc}
+use native.Mathlib.Omega.{arith, by-contra}
+use native.Mathlib.Nat.{le-antisymm, pow-suc, mul-assoc, mul-div-cancel, eq-of-mul-eq-mul-right, eq-or-lt-of-le, le-of-suc-le-suc}
 use lib.Dec.{eqb, ltb, leb}
 use Rattle.zuniq.proofs.Basics.{and-is-true, four-pow-pos, four-pow-split}
 use borrow.Author.Tests.{lt-ltb, ltb-true, ltb-false, eq-eqb, eqb-true, le-ltb, lt-leb, leb-false}
@@ -36,6 +36,15 @@ no-deeper K d h e g p q z =
     let y : (2 * h + 1) * 4 ^ suc k ≡ 2 * g + 1 = eq-of-mul-eq-mul-right (4 ^ (K - e)) (four-pow-pos (K - e)) _ _ x in
     let w : (2 * h + 1) * 4 ^ suc k ≡ (2 * h + 1) * 4 ^ k * 4 = ap (λ (n : ℕ). (2 * h + 1) * n) (pow-suc 4 k) ∙ sym (mul-assoc (2 * h + 1) (4 ^ k) 4) in
     omega arith
+
+-- A zuniq is that of one cell only, whether or not the hash is one that the depth has.
+pub zuniq-injective : (K d h e g : ℕ) → d ≤ K → e ≤ K → zuniq K d h ≡ zuniq K e g → (d ≡ e) × (h ≡ g)
+unfolding zuniq
+zuniq-injective K d h e g p q z =
+    let same : d ≡ e = le-antisymm (by-contra d e (λ l. no-deeper K e g d h l p (sym z))) (by-contra e d (λ l. no-deeper K d h e g l q z)) in
+    let w : (2 * h + 1) * 4 ^ (K - e) ≡ (2 * g + 1) * 4 ^ (K - e) = rw same at z in
+    let x : 2 * h + 1 ≡ 2 * g + 1 = eq-of-mul-eq-mul-right (4 ^ (K - e)) (four-pow-pos (K - e)) _ _ w in
+    (same, omega arith)
 
 nothing-found : (c : Cell) → Decoded.Nothing ≡ Decoded.Cell c → ⊥
 nothing-found c e = let z : _≡_ {A = ℕ} 0 1 = cc in omega arith
