@@ -2,13 +2,20 @@
 -- contracts of the calls use, and all of them hold. Assumes nothing.
 use mathlib.Core.Path.{_≡_, refl}
 use mathlib.Core.Bool.{Bool, true, false, _&&_}
-use mathlib.Core.List.{List, [], _∷_}
+use mathlib.Core.List.{List, [], _∷_, _++_}
 use Prim.Native.Nat.{ℕ, _-_}
 use lib.Dec.{eqb}
+use lib.IntN.{pos, negsuc}
+use lib.Ieee as Ieee
+use lib.Ieee.{Float, fin, isNan}
 use Rattle.zuniq.specs.Cells.{nHash}
 use Rattle.zuniq.specs.Codec.{zuniq, encode, hashAt, isZuniqAt, cellUpTo, decode}
 use Rattle.zuniq.specs.declared.Encoded.{Encoded}
 use Rattle.zuniq.specs.declared.Decoded.{Decoded}
+use Rattle.merger.specs.Floats.{0·0}
+use Rattle.merger.specs.Merge.{chiOfCounts, mergeCounts, countMerger}
+use Rattle.merger.specs.declared.CountMerge.{CountMerge}
+use Rattle.merger.specs.declared.CountMerger.{CountMerger}
 
 pub every : List Bool → Bool
 every [] = true
@@ -55,7 +62,47 @@ section1 =
     ∷ isNone (decode 29 6917529027641081857)
     ∷ []
 
+-- ---- what a row of section 2 says
+-- the count merger answers that the four are kept, with this chi
+keptWith : Float → CountMerger → Bool
+keptWith chi (CountMerger.Answer (CountMerge.Merged n)) = false
+keptWith chi (CountMerger.Answer (CountMerge.Kept x)) = Ieee.eq x chi
+keptWith chi (CountMerger.Refused r) = false
+
+-- the count merger answers this count
+mergedTo : ℕ → CountMerger → Bool
+mergedTo n (CountMerger.Answer (CountMerge.Merged m)) = eqb m n
+mergedTo n (CountMerger.Answer (CountMerge.Kept x)) = false
+mergedTo n (CountMerger.Refused r) = false
+
+3·0 : Float
+3·0 = fin false 3 (pos 0)
+
+3·5 : Float
+3·5 = fin false 7 (negsuc 0)
+
+5·0 : Float
+5·0 = fin false 5 (pos 0)
+
+6·0 : Float
+6·0 = fin false 3 (pos 1)
+
+-- ---- section 2: "M=0 from here on unless given"; the parent depth is 1
+pub section2 : List Bool
+unfolding keptWith mergedTo 3·0 3·5 5·0 6·0 countMerger mergeCounts chiOfCounts Ieee.add Ieee.sub Ieee.mul Ieee.div Ieee.ofInt Ieee.lt Ieee.eq isNan
+section2 =
+    -- "1,2,4,4: chi 3, kept at T=3, merged to 11 at 3.5"
+    Ieee.eq (chiOfCounts 1 2 4 4) 3·0
+    ∷ keptWith 3·0 (countMerger 0 3·0 1 1 2 4 4)
+    ∷ mergedTo 11 (countMerger 0 3·5 1 1 2 4 4)
+    -- "0,0,0,5: kept at T=5, 5 at T=6"
+    ∷ keptWith 5·0 (countMerger 0 5·0 1 0 0 0 5)
+    ∷ mergedTo 5 (countMerger 0 6·0 1 0 0 0 5)
+    -- "4,4,4,4 kept at T=0"
+    ∷ keptWith 0·0 (countMerger 0 0·0 1 4 4 4 4)
+    ∷ []
+
 -- ---- all of them
-pub starred-cases : every section1 ≡ true
-unfolding every section1
+pub starred-cases : every (section1 ++ section2) ≡ true
+unfolding every section1 section2
 starred-cases = refl

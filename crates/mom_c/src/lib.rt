@@ -5,8 +5,13 @@
 // of the refusal. What does not fit goes through a `&mut` number, which is written on acceptance
 // alone: a refusal touches nothing.
 ghost use mathlib.Core.Path.{_≡_};
-ghost use Rattle.mom_c.specs.Words.{wordOf, refusalWord, cellNumberWord, encodedWord, decodedWord, overlapWord};
+ghost use Rattle.mom_c.specs.Words.{wordOf, refusalWord, cellNumberWord, encodedWord, decodedWord, overlapWord, countMergerWord, densityMergerWord};
 ghost use Rattle.zuniq.specs.Codec.{cellNumber, encode, decode, overlapTest};
+ghost use Rattle.merger.specs.Merge.{countMerger, densityMerger};
+use merger::CountMerge;
+use merger::CountMerger;
+use merger::DensityMerge;
+use merger::DensityMerger;
 use zuniq::CellNumber;
 use zuniq::Decoded;
 use zuniq::Encoded;
@@ -17,6 +22,8 @@ use zuniq::refusal::Refusal;
 const ACCEPTED: u8 = 0;
 // There is no such cell or entry.
 const NOTHING: u8 = 65;
+// The four children are kept.
+const KEPT: u8 = 66;
 
 fn word(kind: u8, low: u64) -> u64
     ensures { λ r. ⌜ r ≡ wordOf kind low ⌝ }
@@ -79,5 +86,76 @@ pub extern "C" fn mom_are_overlapping(zuniq_l: u64, zuniq_r: u64) -> u64
     match Zuniq64::are_overlapping(zuniq_l, zuniq_r) {
         Overlap::Answer(overlapping) => word(ACCEPTED, overlapping as u64),
         Overlap::Refused(refusal) => refused(refusal),
+    }
+}
+
+// The count of four merged children, or that they are kept, with their chi-square.
+#[no_mangle]
+pub extern "C" fn mom_chi2_count_merger(
+    parent_depth: u8,
+    depth_threshold: u8,
+    chi2_threshold: f64,
+    n0: u32,
+    n1: u32,
+    n2: u32,
+    n3: u32,
+    chi2: &mut f64,
+) -> u64
+    ensures { λ r. ⌜ (r, now (chi2 .exit)) ≡ countMergerWord (countMerger «depth_threshold» «chi2_threshold» «parent_depth» n0 n1 n2 n3) (now (chi2 .entry)) ⌝ }
+{
+    match merger::chi2_count_merger(
+        parent_depth,
+        depth_threshold,
+        chi2_threshold,
+        n0,
+        n1,
+        n2,
+        n3,
+    ) {
+        CountMerger::Refused(refusal) => refused(refusal),
+        CountMerger::Answer(merge) => match merge {
+            CountMerge::Merged(count) => word(ACCEPTED, count as u64),
+            CountMerge::Kept(found) => {
+                *chi2 = found;
+                word(KEPT, 0)
+            }
+        },
+    }
+}
+
+// The density of four merged children, or that they are kept, with their chi-square.
+#[no_mangle]
+pub extern "C" fn mom_chi2_density_merger(
+    parent_depth: u8,
+    depth_threshold: u8,
+    chi2_threshold: f64,
+    m0: f64,
+    m1: f64,
+    m2: f64,
+    m3: f64,
+    answer: &mut f64,
+) -> u64
+    ensures { λ r. ⌜ (r, now (answer .exit)) ≡ densityMergerWord (densityMerger «depth_threshold» «chi2_threshold» «parent_depth» m0 m1 m2 m3) (now (answer .entry)) ⌝ }
+{
+    match merger::chi2_density_merger(
+        parent_depth,
+        depth_threshold,
+        chi2_threshold,
+        m0,
+        m1,
+        m2,
+        m3,
+    ) {
+        DensityMerger::Refused(refusal) => refused(refusal),
+        DensityMerger::Answer(merge) => match merge {
+            DensityMerge::Merged(density) => {
+                *answer = density;
+                word(ACCEPTED, 0)
+            }
+            DensityMerge::Kept(chi2) => {
+                *answer = chi2;
+                word(KEPT, 0)
+            }
+        },
     }
 }

@@ -1,0 +1,4 @@
+pub mod Floats
+pub mod Accept
+pub mod Counts
+pub mod Densities

@@ -1,0 +1,29 @@
+-- `merge_densities` meets its contract. Assumes nothing.
+use borrow.Author.Needs.{needs}
+use lib.Ieee.{ofBits}
+use Rattle.merger.specs.Merge.{mergeDensities}
+use Rattle.merger.proofs.merge_densities.Statement.{statement}
+use Rattle.merger.proofs.merge_densities.Tie as tie
+
+chi2-of-densities-requires : tie.Need-chi2-of-densities-requires
+chi2-of-densities-requires c κs = search needs
+
+merges-requires : tie.Need-merges-requires
+merges-requires c κs = search needs
+
+sum-of-requires : tie.Need-sum-of-requires
+sum-of-requires c κs = search needs
+
+returns : tie.Need-returns
+unfolding ofBits mergeDensities
+returns c =
+    let merging = c .before .before in
+    rw (← merging .before .chi2-of-densities .ensures, ← merging .merges .ensures, c .before .if1 .taken, c .sum-of .ensures)
+
+returns-2 : tie.Need-returns-2
+unfolding mergeDensities
+returns-2 c = rw (← c .before .before .chi2-of-densities .ensures, ← c .before .merges .ensures, c .if1 .left)
+
+pub merge-densities-spec : {M : Type 1} → statement M
+merge-densities-spec =
+    tie.close (tie.spec chi2-of-densities-requires merges-requires sum-of-requires returns returns-2)
