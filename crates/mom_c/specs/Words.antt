@@ -1,6 +1,8 @@
 -- The answer words of the C functions, and what a call leaves behind its `&mut` numbers: "extern "C" entry points for the
 -- Rust ingest process and the differential runs". A refusal, or that there is nothing, leaves them as they were.
+use mathlib.Core.Path.{_≡_}
 use mathlib.Core.Bool.{true, false}
+use mathlib.Core.List.{List}
 use Prim.Native.Nat.{ℕ, _+_, _*_, _%_, _^_}
 use lib.Ieee.{Float}
 use Rattle.zuniq.specs.Refusals.{numberOf, placeOf}
@@ -13,6 +15,12 @@ use Rattle.merger.specs.declared.CountMerge.{CountMerge}
 use Rattle.merger.specs.declared.CountMerger.{CountMerger}
 use Rattle.merger.specs.declared.DensityMerge.{DensityMerge}
 use Rattle.merger.specs.declared.DensityMerger.{DensityMerger}
+use Rattle.mom.specs.Lookup.{ContainingAnswer, RunAnswer}
+use Rattle.mom.specs.declared.Fault.{Fault}
+use Rattle.mom.specs.declared.MapCheck.{MapCheck}
+use Rattle.mom.specs.declared.lookup.Containing.{Containing}
+use Rattle.mom.specs.declared.lookup.Run.{Run}
+use Rattle.build.specs.declared.counts.CountsAdded.{CountsAdded}
 
 -- the high byte says what the word is, the low 56 bits are the answer or the place
 abbrev pub wordOf : ℕ → ℕ → ℕ
@@ -58,3 +66,39 @@ unfoldable pub densityMergerWord : DensityMerger → Float → ℕ × Float
 densityMergerWord (DensityMerger.Answer (DensityMerge.Merged m)) old = (wordOf accepted 0, m)
 densityMergerWord (DensityMerger.Answer (DensityMerge.Kept chi)) old = (wordOf kept 0, chi)
 densityMergerWord (DensityMerger.Refused r) old = (refusalWord r, old)
+
+-- a fault has a kind of its own, and the word holds its place
+abbrev pub faultKind : Fault → ℕ
+faultKind Fault.NotZuniq = 67
+faultKind Fault.TooDeep = 68
+faultKind Fault.NotAbove = 69
+faultKind Fault.Overlapping = 70
+
+unfoldable pub mapCheckWord : MapCheck → ℕ
+mapCheckWord MapCheck.Valid = wordOf accepted 0
+mapCheckWord (MapCheck.Faulty place fault) = wordOf (faultKind fault) place
+mapCheckWord (MapCheck.Refused r) = refusalWord r
+
+unfoldable pub containingWord : Containing → ℕ
+containingWord (Containing.At place) = wordOf accepted place
+containingWord Containing.Nothing = wordOf nothing 0
+containingWord (Containing.Refused r) = refusalWord r
+
+-- the word of an answer that lookup may give
+pub record ContainingIs (D : ℕ) (zs : List ℕ) (q r : ℕ) : Type 0 where
+  pub answer : Containing
+  pub is : ContainingAnswer 29 D zs q answer
+  pub told : r ≡ containingWord answer
+
+unfoldable pub runWord : Run → ℕ → ℕ × ℕ
+runWord (Run.Entries first len) old = (wordOf accepted first, len)
+runWord (Run.Refused r) old = (refusalWord r, old)
+
+pub record RunIs (zs : List ℕ) (q old r number : ℕ) : Type 0 where
+  pub answer : Run
+  pub is : RunAnswer 29 zs q answer
+  pub told : (r, number) ≡ runWord answer old
+
+-- the number of entries, their total, and both buffers
+unfoldable pub countsAddedWord : CountsAdded × List ℕ × List ℕ → ℕ → ℕ × ℕ × List ℕ × List ℕ
+countsAddedWord t old = elim (t .0) [ CountsAdded.Added entries sum ↦ (wordOf accepted entries, sum, t .1, t .2) | CountsAdded.Refused r ↦ (refusalWord r, old, t .1, t .2) ]

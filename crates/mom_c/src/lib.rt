@@ -5,13 +5,24 @@
 // of the refusal. What does not fit goes through a `&mut` number, which is written on acceptance
 // alone: a refusal touches nothing.
 ghost use mathlib.Core.Path.{_≡_};
-ghost use Rattle.mom_c.specs.Words.{wordOf, refusalWord, cellNumberWord, encodedWord, decodedWord, overlapWord, countMergerWord, densityMergerWord};
+ghost use Rattle.mom_c.specs.Words.{wordOf, refusalWord, cellNumberWord, encodedWord, decodedWord, overlapWord, countMergerWord, densityMergerWord, faultKind, mapCheckWord, ContainingIs, RunIs, countsAddedWord};
 ghost use Rattle.zuniq.specs.Codec.{cellNumber, encode, decode, overlapTest};
 ghost use Rattle.merger.specs.Merge.{countMerger, densityMerger};
+ghost use Rattle.mom.specs.Map.{mapCheck};
+ghost use Rattle.build.specs.Counts.{addCounts};
+use build::counts::CountsAdded;
+use build::counts::add_counts;
 use merger::CountMerge;
 use merger::CountMerger;
 use merger::DensityMerge;
 use merger::DensityMerger;
+use mom::Fault;
+use mom::MapCheck;
+use mom::check_is_mom;
+use mom::lookup::Containing;
+use mom::lookup::Run;
+use mom::lookup::get_cell_containing;
+use mom::lookup::get_overlapped_run;
 use zuniq::CellNumber;
 use zuniq::Decoded;
 use zuniq::Encoded;
@@ -24,6 +35,14 @@ const ACCEPTED: u8 = 0;
 const NOTHING: u8 = 65;
 // The four children are kept.
 const KEPT: u8 = 66;
+// The faults of a map's entry.
+const NOT_ZUNIQ: u8 = 67;
+
+const TOO_DEEP: u8 = 68;
+
+const NOT_ABOVE: u8 = 69;
+
+const OVERLAPPING: u8 = 70;
 
 fn word(kind: u8, low: u64) -> u64
     ensures { λ r. ⌜ r ≡ wordOf kind low ⌝ }
@@ -157,5 +176,90 @@ pub extern "C" fn mom_chi2_density_merger(
                 word(KEPT, 0)
             }
         },
+    }
+}
+
+fn fault_kind(fault: Fault) -> u8
+    ensures { λ r. ⌜ r ≡ faultKind fault ⌝ }
+{
+    match fault {
+        Fault::NotZuniq => NOT_ZUNIQ,
+        Fault::TooDeep => TOO_DEEP,
+        Fault::NotAbove => NOT_ABOVE,
+        Fault::Overlapping => OVERLAPPING,
+    }
+}
+
+// Whether a map is valid, or its first fault with the place.
+#[no_mangle]
+pub extern "C" fn mom_check_is_mom(depth: u8, zuniqs: &[u64]) -> u64
+    ensures { λ r. ⌜ r ≡ mapCheckWord (mapCheck 29 depth (now (zuniqs .entry))) ⌝ }
+{
+    match check_is_mom(depth, zuniqs) {
+        MapCheck::Valid => word(ACCEPTED, 0),
+        MapCheck::Faulty(place, fault) => word(fault_kind(fault), place as u64),
+        MapCheck::Refused(refusal) => refused(refusal),
+    }
+}
+
+// The place of the entry in which a cell of the map's depth lies, or that there is none.
+#[no_mangle]
+pub extern "C" fn mom_get_cell_containing(depth: u8, zuniqs: &[u64], zuniq: u64) -> u64
+    ensures { λ r. ⌜ ContainingIs depth (now (zuniqs .entry)) «zuniq» r ⌝ }
+{
+    match get_cell_containing(depth, zuniqs, zuniq) {
+        Containing::At(place) => word(ACCEPTED, place as u64),
+        Containing::Nothing => word(NOTHING, 0),
+        Containing::Refused(refusal) => refused(refusal),
+    }
+}
+
+// The entries that overlap a query: the place of the first, and their number.
+#[no_mangle]
+pub extern "C" fn mom_get_overlapped_cells(zuniqs: &[u64], zuniq: u64, number: &mut usize) -> u64
+    ensures { λ r. ⌜ RunIs (now (zuniqs .entry)) «zuniq» (now (number .entry)) r (now (number .exit)) ⌝ }
+{
+    match get_overlapped_run(zuniqs, zuniq) {
+        Run::Entries { first, len } => {
+            *number = len;
+            word(ACCEPTED, first as u64)
+        }
+        Run::Refused(refusal) => refused(refusal),
+    }
+}
+
+// Adds a batch of counts to a map in two buffers: the number of entries, and their total.
+#[no_mangle]
+pub extern "C" fn mom_add_counts(
+    depth: u8,
+    depth_threshold: u8,
+    chi2_threshold: f64,
+    held: usize,
+    zuniqs: &mut [u64],
+    counts: &mut [u32],
+    hashes: &[u64],
+    batch: &[u32],
+    total: &mut u32,
+) -> u64
+    ensures { λ r. ⌜ (r, now (total .exit), now (zuniqs .exit), now (counts .exit)) ≡ countsAddedWord (addCounts depth «depth_threshold» «chi2_threshold» held (now (zuniqs .entry)) (now (counts .entry)) (now (hashes .entry)) (now (batch .entry))) (now (total .entry)) ⌝ }
+{
+    match add_counts(
+        depth,
+        depth_threshold,
+        chi2_threshold,
+        held,
+        zuniqs,
+        counts,
+        hashes,
+        batch,
+    ) {
+        CountsAdded::Added {
+            entries,
+            total: sum,
+        } => {
+            *total = sum;
+            word(ACCEPTED, entries as u64)
+        }
+        CountsAdded::Refused(refusal) => refused(refusal),
     }
 }

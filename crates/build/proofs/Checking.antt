@@ -1,0 +1,150 @@
+-- The checks of an add call, turn by turn. Assumes nothing.
+use mathlib.Core.Path.{_≡_, refl, ap, sym, _∙_}
+use mathlib.Core.Bool.{Bool, true, false, _||_, not, true≢false}
+use mathlib.Core.List.{List, [], _∷_}
+use mathlib.Core.Logic.{⊎-elim}
+use mathlib.Core.Option.{Option, none, some}
+use Prim.Native.Nat.{ℕ, zero, suc, _+_, _≤_, _<_, min}
+use native.Mathlib.Numerals.{add-one}
+use native.Mathlib.Omega.{arith}
+use lib.Dec.{eqb, leb, ltb}
+use lib.Ieee.{Float}
+use lib.ListN.{length, getD, drop, drop-of-length-le}
+use lib.Seq.{drop-cons}
+use borrow.Author.Tests.{leb-false, ltb-false, lt-ltb, eqb-true, eqb-false, not-false}
+use Rattle.zuniq.specs.Cells.{nHash}
+use Rattle.zuniq.specs.declared.refusal.Refusal.{Refusal}
+use Rattle.zuniq.proofs.Basics.{le-or-lt}
+use Rattle.mom.specs.Map.{firstFault, ValidMap}
+use Rattle.mom.specs.declared.FirstFault.{FirstFault}
+use Rattle.mom.proofs.Faults.{no-fault-iff-valid}
+use Rattle.build.specs.Map.{orElse}
+use Rattle.build.specs.declared.Check.{Check}
+use Rattle.build.specs.declared.counts.Total.{Total}
+use Rattle.build.specs.Add.{refusedIf, checkOf, settingsRefusal, lengthsRefusal, mapRefusal, cellRefusal, cellsRefusal, hashesRefusal, sumOf, cappedSum, sumRefusal, totalRefusal, spaceRefusal}
+use Rattle.build.specs.Counts.{totalOr, never}
+
+-- What a check answers tells what it found.
+pub check-passed : (o : Option Refusal) → Check.Passed ≡ checkOf o → o ≡ none
+check-passed none e = refl
+check-passed (some r) e = let z : _≡_ {A = ℕ} 0 1 = cc in absurd (omega arith)
+
+pub check-refused : (o : Option Refusal) (r : Refusal) → Check.Refused r ≡ checkOf o → o ≡ some r
+check-refused none r e = let z : _≡_ {A = ℕ} 0 1 = cc in absurd (omega arith)
+check-refused (some s) r e = cc
+
+-- A cell that passes is one of its depth, and is not below what it must be above.
+pub cell-passes : (cells least h i : ℕ) → cellRefusal cells least h i ≡ none → (h < cells) × (least ≤ h)
+unfolding cellRefusal
+cell-passes cells least h i e = go (leb cells h) refl (ltb h least) refl e
+  where
+    go : (a : Bool) → leb cells h ≡ a → (b : Bool) → ltb h least ≡ b
+        → orElse (refusedIf a (Refusal.HashOutOfRange i)) (refusedIf b (Refusal.CellNotAbove i)) ≡ none → (h < cells) × (least ≤ h)
+    go true p b q f = let z : _≡_ {A = ℕ} 0 1 = cc in absurd (omega arith)
+    go false p true q f = let z : _≡_ {A = ℕ} 0 1 = cc in absurd (omega arith)
+    go false p false q f = (leb-false cells h p, ltb-false h least q)
+
+-- The cells from place i on: the one there, and those after it.
+pub hashes-at : (D least i : ℕ) (hs : List ℕ) → i < length hs
+    → hashesRefusal D least i (drop i hs) ≡ orElse (cellRefusal (nHash D) least (getD hs i 0) i) (hashesRefusal D (getD hs i 0 + 1) (i + 1) (drop (i + 1) hs))
+unfolding hashesRefusal
+hashes-at D least i hs p = rw (drop-cons hs i 0 p, add-one i) refl
+
+pub hashes-end : (D least i : ℕ) (hs : List ℕ) → length hs ≤ i → hashesRefusal D least i (drop i hs) ≡ none
+unfolding hashesRefusal
+hashes-end D least i hs p = rw (drop-of-length-le hs p) refl
+
+-- ---- what passing a check tells
+-- Of two refusals in order there is none exactly if neither is.
+pub or-else-none : (a b : Option Refusal) → orElse a b ≡ none → (a ≡ none) × (b ≡ none)
+or-else-none none b e = (refl, e)
+or-else-none (some r) b e = let z : _≡_ {A = ℕ} 0 1 = cc in absurd (omega arith)
+
+refused-if-none : (t : Bool) (r : Refusal) → refusedIf t r ≡ none → t ≡ false
+refused-if-none true r e = let z : _≡_ {A = ℕ} 0 1 = cc in absurd (omega arith)
+refused-if-none false r e = refl
+
+or-false-both : (a b : Bool) → (a || b) ≡ false → (a ≡ false) × (b ≡ false)
+or-false-both true b e = absurd (true≢false e)
+or-false-both false b e = (refl, e)
+
+pub settings-pass : (D M : ℕ) (T : Float) → settingsRefusal D M T ≡ none → (0 < D) × (D ≤ 29)
+unfolding settingsRefusal
+settings-pass D M T e =
+    let b = or-false-both (eqb D 0) (ltb 29 D) (refused-if-none _ _ (or-else-none _ _ e .0)) in
+    let n = eqb-false D 0 (b .0) in
+    (go D n, ltb-false 29 D (b .1))
+  where
+    go : (n : ℕ) → (n ≡ 0 → ⊥) → 0 < n
+    go zero k = absurd (k refl)
+    go (suc n) k = omega arith
+
+pub lengths-pass : (m zs vs hs batch : ℕ) → lengthsRefusal m zs vs hs batch ≡ none → (zs ≡ vs) × (m ≤ zs) × (hs ≡ batch)
+unfolding lengthsRefusal
+lengths-pass m zs vs hs batch e =
+    let b = or-false-both (not (eqb zs vs)) _ (refused-if-none _ _ e) in
+    let d = or-false-both (ltb zs m) (not (eqb hs batch)) (b .1) in
+    (eqb-true zs vs (not-false _ (b .0)), ltb-false zs m (d .0), eqb-true hs batch (not-false _ (d .1)))
+
+pub map-passes : (D : ℕ) (zs : List ℕ) → mapRefusal (firstFault 29 D zs) ≡ none → ValidMap 29 D zs
+unfolding mapRefusal
+map-passes D zs e = no-fault-iff-valid 29 D zs .0 (go (firstFault 29 D zs) e)
+  where
+    go : (f : FirstFault) → mapRefusal f ≡ none → f ≡ FirstFault.Nothing
+    go FirstFault.Nothing q = refl
+    go (FirstFault.At i fault) q = let z : _≡_ {A = ℕ} 0 1 = cc in absurd (omega arith)
+
+pub space-passes : (places m batch : ℕ) → spaceRefusal places m batch ≡ none → m + batch ≤ places
+unfolding spaceRefusal
+space-passes places m batch e = ltb-false places (m + batch) (refused-if-none _ _ e)
+
+-- Cells of which all pass rise from `least`, and are cells of their depth.
+pub hashes-pass : (D least i : ℕ) (hs : List ℕ) → hashesRefusal D least i hs ≡ none → (k : ℕ) → k < length hs → getD hs k 0 < nHash D
+unfolding hashesRefusal
+hashes-pass D least i [] e k p = absurd (omega arith)
+hashes-pass D least i (h ∷ hs) e zero p = cell-passes (nHash D) least h i (or-else-none (cellRefusal (nHash D) least h i) (hashesRefusal D (h + 1) (i + 1) hs) e .0) .0
+hashes-pass D least i (h ∷ hs) e (suc k) p = hashes-pass D (h + 1) (i + 1) hs (or-else-none (cellRefusal (nHash D) least h i) (hashesRefusal D (h + 1) (i + 1) hs) e .1) k (omega arith)
+
+-- Where no value is bad, the hashes are all that is tried.
+pub cells-by-hashes : (D least i : ℕ) (hs ns : List ℕ) → length hs ≡ length ns → cellsRefusal never D least i hs ns ≡ hashesRefusal D least i hs
+unfolding cellsRefusal hashesRefusal
+cells-by-hashes D least i [] ns e = refl
+cells-by-hashes D least i (h ∷ hs) [] e = absurd (omega arith)
+cells-by-hashes D least i (h ∷ hs) (n ∷ ns) e = ap (orElse (cellRefusal (nHash D) least h i)) (cells-by-hashes D (h + 1) (i + 1) hs ns (omega arith))
+
+-- ---- totals
+pub total-passed : (o : Option Refusal) (n x : ℕ) → totalOr o n ≡ Total.Sum x → (o ≡ none) × (n ≡ x)
+total-passed none n x e = (refl, cc)
+total-passed (some r) n x e = let z : _≡_ {A = ℕ} 0 1 = cc in absurd (omega arith)
+
+pub total-refused : (o : Option Refusal) (n : ℕ) (r : Refusal) → totalOr o n ≡ Total.Refused r → o ≡ some r
+total-refused none n r e = let z : _≡_ {A = ℕ} 0 1 = cc in absurd (omega arith)
+total-refused (some s) n r e = cc
+
+-- A total that is not refused fits.
+sum-fits : (sum i : ℕ) (ns : List ℕ) → sum ≤ 4294967295 → sumRefusal sum i ns ≡ none → sum + sumOf ns ≤ 4294967295
+unfolding sumRefusal sumOf
+sum-fits sum i [] l e = omega arith
+sum-fits sum i (n ∷ ns) l e =
+    let p = or-else-none _ _ e in
+    let q = sum-fits (sum + n) (i + 1) ns (ltb-false 4294967295 (sum + n) (refused-if-none _ _ (p .0))) (p .1) in
+    omega arith
+
+pub total-fits : (sum : ℕ) (ns : List ℕ) → totalRefusal sum ns ≡ none → sum + sumOf ns ≤ 4294967295
+unfolding totalRefusal
+total-fits sum ns e = let p = or-else-none _ _ e in sum-fits sum 0 ns (ltb-false 4294967295 sum (refused-if-none _ _ (p .0))) (p .1)
+
+-- The capped sum tells as much as the sum.
+capped-total : (vs ns : List ℕ) → totalOr (totalRefusal (cappedSum vs) ns) (cappedSum vs + sumOf ns) ≡ totalOr (totalRefusal (sumOf vs) ns) (sumOf vs + sumOf ns)
+unfolding totalRefusal cappedSum
+capped-total vs ns = ⊎-elim small large (le-or-lt (sumOf vs) 4294967295)
+  where
+    small : sumOf vs ≤ 4294967295 → totalOr (totalRefusal (cappedSum vs) ns) (cappedSum vs + sumOf ns) ≡ totalOr (totalRefusal (sumOf vs) ns) (sumOf vs + sumOf ns)
+    small l = let e : min (sumOf vs) 4294967296 ≡ sumOf vs = omega arith in rw e refl
+
+    large : 4294967295 < sumOf vs → totalOr (totalRefusal (cappedSum vs) ns) (cappedSum vs + sumOf ns) ≡ totalOr (totalRefusal (sumOf vs) ns) (sumOf vs + sumOf ns)
+    large l = rw (lt-ltb 4294967295 (min (sumOf vs) 4294967296) (omega arith), lt-ltb 4294967295 (sumOf vs) l) refl
+
+pub total-uncapped : (vs ns : List ℕ) (capped : ℕ) (r : Total) → capped ≡ cappedSum vs → r ≡ totalOr (totalRefusal capped ns) (capped + sumOf ns)
+    → r ≡ totalOr (totalRefusal (sumOf vs) ns) (sumOf vs + sumOf ns)
+total-uncapped vs ns capped r e q = (rw e at q) ∙ capped-total vs ns

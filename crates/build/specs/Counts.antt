@@ -1,0 +1,67 @@
+-- Section 4 of the scope: adding counts.
+use mathlib.Core.Bool.{Bool, false}
+use mathlib.Core.List.{List}
+use mathlib.Core.Option.{Option, none, some}
+use Prim.Native.Nat.{ℕ}
+use lib.Ieee.{Float}
+use lib.ListN.{length}
+use Rattle.zuniq.specs.declared.refusal.Refusal.{Refusal}
+use Rattle.merger.specs.Merge.{acceptCounts}
+use Rattle.mom.specs.Map.{firstFault}
+use Rattle.build.specs.declared.counts.Total.{Total}
+use Rattle.build.specs.declared.counts.CountsAdded.{CountsAdded}
+use Rattle.build.specs.Map.{Entry, orElse}
+use Rattle.build.specs.Promises.{total}
+use Rattle.build.specs.Calls.{Buffers, Batch, Answer, Calls, addCall}
+use Rattle.build.specs.Add.{settingsRefusal, lengthsRefusal, mapRefusal, mapEnd, cellsRefusal, sumOf, totalRefusal, spaceRefusal}
+
+-- the sum of the counts of a map
+abbrev pub totalOf : List (Entry ℕ) → ℕ
+totalOf s = total (λ n. n) s
+
+-- the total, or why it is refused
+abbrev pub totalOr : Option Refusal → ℕ → Total
+totalOr none n = Total.Sum n
+totalOr (some r) n = Total.Refused r
+
+-- a count is never bad
+abbrev pub never : ℕ → Bool
+never n = false
+
+-- The refusals of adding counts, in the order of the table: 1 to 5, 7 and 8 cell by cell, 10, 11. m is the held number, `places`
+-- and `values` are the lengths of the buffers, zs and vs the held zuniqs and counts, hs and ns the batch.
+unfoldable pub countsRefusal : ℕ → ℕ → Float → ℕ → ℕ → ℕ → List ℕ → List ℕ → List ℕ → List ℕ → Option Refusal
+countsRefusal D M T m places values zs vs hs ns =
+    orElse (settingsRefusal D M T)
+    (orElse (lengthsRefusal m places values (length hs) (length ns))
+    (orElse (mapRefusal (firstFault 29 D zs))
+    (orElse (cellsRefusal never D (mapEnd 29 D zs) 0 hs ns)
+    (orElse (totalRefusal (sumOf vs) ns)
+    (spaceRefusal places m (length hs))))))
+
+-- "the new number of entries and, for counts, their total"
+pub record Report : Type 0 where
+  pub entries : ℕ
+  pub sum : ℕ
+
+-- "a list of count add calls with one D, M and T"
+abbrev pub countCalls : ℕ → ℕ → Float → Calls ℕ Refusal Report
+countCalls D M T = record {
+  largest = 29;
+  D = D;
+  filler = 0;
+  accept = acceptCounts M T;
+  refusal = λ m places values zs vs c. countsRefusal D M T m places values zs vs (c .hashes) (c .values);
+  report = λ s. record { entries = length s; sum = totalOf s };
+}
+
+-- what the call answers
+abbrev pub countsAdded : Answer Refusal Report → CountsAdded
+countsAdded (Answer.refused r) = CountsAdded.Refused r
+countsAdded (Answer.accepted x) = CountsAdded.Added (x .entries) (x .sum)
+
+-- The answer and both buffers afterwards.
+unfoldable pub addCounts : ℕ → ℕ → Float → ℕ → List ℕ → List ℕ → List ℕ → List ℕ → CountsAdded × List ℕ × List ℕ
+addCounts D M T m zs vs hs ns =
+    let t = addCall (countCalls D M T) (record { number = m; zuniqs = zs; values = vs }) (record { hashes = hs; values = ns }) in
+    (countsAdded (t .1), t .0 .zuniqs, t .0 .values)

@@ -1,0 +1,44 @@
+-- What the inner functions of adding promise: a map in the first places of two buffers, while cells are appended to it.
+use mathlib.Core.Path.{_≡_}
+use mathlib.Core.Bool.{Bool, _&&_}
+use mathlib.Core.List.{List, _∷_}
+use Prim.Native.Nat.{ℕ, _+_, _*_, _/_, _%_, _-_, _≤_, _<_}
+use lib.Dec.{eqb, leb}
+use lib.ListN.{length, getD}
+use Rattle.zuniq.specs.Codec.{zuniq, IsZuniqOf}
+use Rattle.build.specs.Map.{Entry, Merger}
+use Rattle.build.specs.Stack.{collapse, run}
+use Rattle.build.specs.Buffers.{held}
+
+-- The first n places of two buffers hold a map's zuniqs and values.
+pub record Stands {A : Type 0} (K n : ℕ) (zs : List ℕ) (vs : List A) : Type 0 where
+  pub zuniqs : n ≤ length zs
+  pub values : n ≤ length vs
+  pub valid : (i : ℕ) → i < n → (d : ℕ) × (h : ℕ) × IsZuniqOf K (getD zs i 0) d h
+
+-- The last four of the first n places hold the zuniqs of children 0 to 3 of one parent, the last one that of (d, h).
+unfoldable pub quadAt : ℕ → ℕ → List ℕ → ℕ → ℕ → Bool
+quadAt K n zs d h =
+    eqb (h % 4) 3
+    && (leb 4 n
+    && (eqb (getD zs (n - 2) 0) (zuniq K d (4 * (h / 4) + 2))
+    && (eqb (getD zs (n - 3) 0) (zuniq K d (4 * (h / 4) + 1))
+    && eqb (getD zs (n - 4) 0) (zuniq K d (4 * (h / 4) + 0)))))
+
+-- What collapsing the map in the first n places leaves: r entries, which are that map collapsed.
+pub record Collapsed {A : Type 0} (accept : Merger A) (K n : ℕ) (zs : List ℕ) (vs : List A) (r : ℕ) (zs′ : List ℕ) (vs′ : List A) : Type 0 where
+  pub stands : Stands K r zs′ vs′
+  pub least : r ≤ n
+  pub is : held K r zs′ vs′ ≡ collapse accept (held K n zs vs)
+
+-- What appending an entry behind n others leaves: the map with that entry on top, collapsed.
+pub record Pushed {A : Type 0} (accept : Merger A) (K n : ℕ) (e : Entry A) (zs : List ℕ) (vs : List A) (r : ℕ) (zs′ : List ℕ) (vs′ : List A) : Type 0 where
+  pub stands : Stands K r zs′ vs′
+  pub least : r ≤ n + 1
+  pub is : held K r zs′ vs′ ≡ collapse accept (e ∷ held K n zs vs)
+
+-- What adding a batch of cells to n entries leaves.
+pub record Added {A : Type 0} (accept : Merger A) (K n : ℕ) (l : List (Entry A)) (zs : List ℕ) (vs : List A) (r : ℕ) (zs′ : List ℕ) (vs′ : List A) : Type 0 where
+  pub stands : Stands K r zs′ vs′
+  pub least : r ≤ n + length l
+  pub is : held K r zs′ vs′ ≡ run accept (held K n zs vs) l

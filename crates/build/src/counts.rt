@@ -1,0 +1,313 @@
+// Adding counts.
+ghost use mathlib.Core.Path.{_≡_};
+ghost use Prim.Native.Nat.{ℕ, _+_, _-_, _*_, _≤_, _<_, min};
+ghost use lib.ListN.{length, getD, take, replicate};
+ghost use Rattle.zuniq.specs.Cells.{nHash};
+ghost use Rattle.zuniq.specs.Codec.{IsZuniqOf};
+ghost use Rattle.merger.specs.Merge.{mergeCounts, acceptCounts};
+ghost use Rattle.build.specs.Map.{entry};
+ghost use Rattle.build.specs.Buffers.{held, held as heldMap, batch as batchOf};
+ghost use Rattle.build.specs.Standing.{Stands, Collapsed, Pushed, Added};
+ghost use Rattle.build.specs.Add.{checkOf, hashesRefusal, sumOf, cappedSum, totalRefusal};
+ghost use Rattle.build.specs.Counts.{totalOf, totalOr, countsRefusal, addCounts};
+use crate::Check;
+use crate::are_siblings;
+use crate::check_cell;
+use crate::check_lengths;
+use crate::check_map;
+use crate::check_settings;
+use crate::check_space;
+use crate::end_of_map;
+use crate::free::clear_counts;
+use crate::free::clear_zuniqs;
+use crate::free::put_count;
+use crate::free::put_zuniq;
+use merger::CountMerge;
+use merger::merge_counts;
+use zuniq::Zuniq64;
+use zuniq::n_hash_unchecked;
+use zuniq::refusal::Refusal;
+
+const MAX_COUNT: u64 = 4294967295;
+
+// What adding counts answers: the number of entries and the sum of all counts, or why it is refused.
+pub enum CountsAdded {
+    Added { entries: usize, total: u32 },
+    Refused(Refusal),
+}
+
+// The sum of all counts.
+pub enum Total {
+    Sum(u32),
+    Refused(Refusal),
+}
+
+// Adds a batch of cells of one depth to the first `held` entries of a map in two buffers.
+pub fn add_counts(
+    depth: u8,
+    depth_threshold: u8,
+    chi2_threshold: f64,
+    held: usize,
+    zuniqs: &mut [u64],
+    counts: &mut [u32],
+    hashes: &[u64],
+    batch: &[u32],
+) -> CountsAdded
+    ensures { λ r. ⌜ (r, now (zuniqs .exit), now (counts .exit)) ≡ addCounts depth «depth_threshold» «chi2_threshold» held (now (zuniqs .entry)) (now (counts .entry)) (now (hashes .entry)) (now (batch .entry)) ⌝ }
+{
+    let checked = check(
+        depth,
+        depth_threshold,
+        chi2_threshold,
+        held,
+        &zuniqs[..],
+        &counts[..],
+        hashes,
+        batch,
+    );
+    match checked {
+        Total::Refused(refusal) => CountsAdded::Refused(refusal),
+        Total::Sum(total) => {
+            let entries = push_all(
+                zuniqs,
+                counts,
+                held,
+                depth,
+                hashes,
+                batch,
+                depth_threshold,
+                chi2_threshold,
+            );
+            clear_zuniqs(&mut zuniqs[entries..]);
+            clear_counts(&mut counts[entries..]);
+            CountsAdded::Added { entries, total }
+        }
+    }
+}
+
+// Everything that can be refused, in the order of the table; the total of the counts where nothing is.
+fn check(
+    depth: u8,
+    depth_threshold: u8,
+    chi2_threshold: f64,
+    held: usize,
+    zuniqs: &[u64],
+    counts: &[u32],
+    hashes: &[u64],
+    batch: &[u32],
+) -> Total
+    ensures { λ r. ⌜ r ≡ totalOr (countsRefusal depth «depth_threshold» «chi2_threshold» held (length (now (zuniqs .entry))) (length (now (counts .entry))) (take held (now (zuniqs .entry))) (take held (now (counts .entry))) (now (hashes .entry)) (now (batch .entry))) (sumOf (take held (now (counts .entry))) + sumOf (now (batch .entry))) ⌝ }
+{
+    if let Check::Refused(refusal) = check_settings(depth, depth_threshold, chi2_threshold) {
+        return Total::Refused(refusal);
+    }
+    if let Check::Refused(refusal) = check_lengths(
+        held,
+        zuniqs.len(),
+        counts.len(),
+        hashes.len(),
+        batch.len(),
+    ) {
+        return Total::Refused(refusal);
+    }
+    if let Check::Refused(refusal) = check_map(depth, &zuniqs[..held]) {
+        return Total::Refused(refusal);
+    }
+    let end = end_of_map(depth, &zuniqs[..held]);
+    if let Check::Refused(refusal) = check_cells(depth, end, hashes) {
+        return Total::Refused(refusal);
+    }
+    let total = check_total(capped_sum(&counts[..held]), batch);
+    if let Total::Refused(refusal) = total {
+        return Total::Refused(refusal);
+    }
+    if let Check::Refused(refusal) = check_space(zuniqs.len(), held, hashes.len()) {
+        return Total::Refused(refusal);
+    }
+    total
+}
+
+// Appends the cells of a batch, one after the other. Answers the number of entries.
+fn push_all(
+    zuniqs: &mut [u64],
+    counts: &mut [u32],
+    held: usize,
+    depth: u8,
+    hashes: &[u64],
+    batch: &[u32],
+    depth_threshold: u8,
+    chi2_threshold: f64,
+) -> usize
+    requires { ⌜ Stands 29 held (now zuniqs) (now counts) × (depth ≤ 29) × (length (now hashes) ≡ length (now batch)) × (held + length (now hashes) ≤ length (now zuniqs)) × (held + length (now hashes) ≤ length (now counts)) ⌝ }
+    requires { ⌜ ((i : ℕ) → i < length (now hashes) → getD (now hashes) i 0 < nHash depth) ⌝ }
+    requires { ⌜ totalOf (heldMap 29 held (now zuniqs) (now counts)) + sumOf (now batch) ≤ 4294967295 ⌝ }
+    ensures { λ r. ⌜ Added (acceptCounts «depth_threshold» «chi2_threshold») 29 held (batchOf depth (now (hashes .entry)) (now (batch .entry))) (now (zuniqs .entry)) (now (counts .entry)) r (now (zuniqs .exit)) (now (counts .exit)) ⌝ }
+{
+    let mut n = held;
+    let mut i = 0;
+    while i < hashes.len() {
+        n = push(
+            zuniqs,
+            counts,
+            n,
+            depth,
+            hashes[i],
+            batch[i],
+            depth_threshold,
+            chi2_threshold,
+        );
+        i += 1;
+    }
+    n
+}
+
+// Appends a cell behind n entries, through the free part of the buffers, and merges what can be.
+// Answers the number of entries.
+fn push(
+    zuniqs: &mut [u64],
+    counts: &mut [u32],
+    n: usize,
+    depth: u8,
+    hash: u64,
+    count: u32,
+    depth_threshold: u8,
+    chi2_threshold: f64,
+) -> usize
+    requires { ⌜ Stands 29 n (now zuniqs) (now counts) × (n < length (now zuniqs)) × (n < length (now counts)) × (depth ≤ 29) × (hash < nHash depth) × (count + totalOf (held 29 n (now zuniqs) (now counts)) ≤ 4294967295) ⌝ }
+    ensures { λ r. ⌜ Pushed (acceptCounts «depth_threshold» «chi2_threshold») 29 n (entry depth hash count) (now (zuniqs .entry)) (now (counts .entry)) r (now (zuniqs .exit)) (now (counts .exit)) ⌝ }
+{
+    put_zuniq(&mut zuniqs[n..], Zuniq64::to_zuniq_unchecked(depth, hash));
+    put_count(&mut counts[n..], count);
+    collapse(
+        zuniqs,
+        counts,
+        n + 1,
+        depth,
+        hash,
+        depth_threshold,
+        chi2_threshold,
+    )
+}
+
+// Merges the last four entries as long as they are siblings that the merger accepts. The last entry
+// is the cell given; answers the number of entries left.
+fn collapse(
+    zuniqs: &mut [u64],
+    counts: &mut [u32],
+    len: usize,
+    last_depth: u8,
+    last_hash: u64,
+    depth_threshold: u8,
+    chi2_threshold: f64,
+) -> usize
+    requires { ⌜ (0 < len) × Stands 29 len (now zuniqs) (now counts) × IsZuniqOf 29 (getD (now zuniqs) (len - 1) 0) «last_depth» «last_hash» × (totalOf (held 29 len (now zuniqs) (now counts)) ≤ 4294967295) ⌝ }
+    ensures { λ r. ⌜ Collapsed (acceptCounts «depth_threshold» «chi2_threshold») 29 len (now (zuniqs .entry)) (now (counts .entry)) r (now (zuniqs .exit)) (now (counts .exit)) ⌝ }
+{
+    let mut n = len;
+    let mut depth = last_depth;
+    let mut hash = last_hash;
+    while depth > 0 {
+        if !are_siblings(&zuniqs[..], n, depth, hash) {
+            return n;
+        }
+        depth -= 1;
+        hash /= 4;
+        let CountMerge::Merged(count) = merge_last(
+            &counts[..],
+            n,
+            depth,
+            hash,
+            depth_threshold,
+            chi2_threshold,
+        ) else {
+            return n;
+        };
+        let first = n - 4;
+        zuniqs[first] = Zuniq64::to_zuniq_unchecked(depth, hash);
+        counts[first] = count;
+        n = first + 1;
+    }
+    n
+}
+
+// What becomes of the last four of n counts.
+fn merge_last(
+    counts: &[u32],
+    n: usize,
+    parent_depth: u8,
+    parent_hash: u64,
+    depth_threshold: u8,
+    chi2_threshold: f64,
+) -> CountMerge
+    requires { ⌜ (4 ≤ n) × (n ≤ length (now counts)) × (getD (now counts) (n - 4) 0 + getD (now counts) (n - 3) 0 + getD (now counts) (n - 2) 0 + getD (now counts) (n - 1) 0 ≤ 4294967295) ⌝ }
+    ensures { λ r. ⌜ r ≡ mergeCounts «depth_threshold» «chi2_threshold» «parent_depth» «parent_hash» (getD (now (counts .entry)) (n - 4) 0) (getD (now (counts .entry)) (n - 3) 0) (getD (now (counts .entry)) (n - 2) 0) (getD (now (counts .entry)) (n - 1) 0) ⌝ }
+{
+    merge_counts(
+        parent_depth,
+        parent_hash,
+        depth_threshold,
+        chi2_threshold,
+        counts[n - 4],
+        counts[n - 3],
+        counts[n - 2],
+        counts[n - 1],
+    )
+}
+
+// Rows 7 and 8 for all cells of a batch.
+fn check_cells(depth: u8, end: u64, hashes: &[u64]) -> Check
+    requires { ⌜ depth ≤ 29 ⌝ }
+    ensures { λ r. ⌜ r ≡ checkOf (hashesRefusal depth end 0 (now (hashes .entry))) ⌝ }
+{
+    let n_hash = n_hash_unchecked(depth);
+    let mut least = end;
+    let mut i = 0;
+    while i < hashes.len() {
+        let hash = hashes[i];
+        if let Check::Refused(refusal) = check_cell(n_hash, least, hash, i) {
+            return Check::Refused(refusal);
+        }
+        least = hash + 1;
+        i += 1;
+    }
+    Check::Passed
+}
+
+// The sum of some counts, or one more than a u32 holds where it is more than that.
+fn capped_sum(counts: &[u32]) -> u64
+    ensures { λ r. ⌜ r ≡ cappedSum (now (counts .entry)) ⌝ }
+{
+    let mut sum: u64 = 0;
+    let mut i = 0;
+    while i < counts.len() {
+        sum = capped(sum + counts[i] as u64);
+        i += 1;
+    }
+    sum
+}
+
+fn capped(sum: u64) -> u64
+    ensures { λ r. ⌜ r ≡ min sum 4294967296 ⌝ }
+{
+    if sum > MAX_COUNT { MAX_COUNT + 1 } else { sum }
+}
+
+// Row 10: the total of the held counts and the batch, if it fits.
+fn check_total(held: u64, batch: &[u32]) -> Total
+    requires { ⌜ held ≤ 4294967296 ⌝ }
+    ensures { λ r. ⌜ r ≡ totalOr (totalRefusal held (now (batch .entry))) (held + sumOf (now (batch .entry))) ⌝ }
+{
+    if held > MAX_COUNT {
+        return Total::Refused(Refusal::CountOverflow(0));
+    }
+    let mut sum = held;
+    let mut i = 0;
+    while i < batch.len() {
+        sum += batch[i] as u64;
+        if sum > MAX_COUNT {
+            return Total::Refused(Refusal::CountOverflow(i));
+        }
+        i += 1;
+    }
+    Total::Sum(sum as u32)
+}

@@ -1,0 +1,152 @@
+// Adding cells to a map that stands in two lent buffers: section 4 of the scope.
+//
+// A map is a number of entries at the front of two buffers, one of zuniqs and one of values. An add
+// call takes a batch of cells of one depth, which rise and start where the held map ends or later.
+// Each cell is appended; while the last four entries are children 0 to 3 of one parent and the
+// merger accepts, they are replaced by the parent. Every place after the entries is then 0.
+//
+// A call looks at everything before it writes anything, so that a refusal leaves both buffers as
+// they were: one pass over the held map, one over the batch, and one to write.
+ghost use mathlib.Core.Path.{_≡_};
+ghost use Prim.Native.Nat.{ℕ, _+_, _-_, _*_, _^_, _≤_, _<_};
+ghost use lib.ListN.{length, getD, take, replicate};
+ghost use Rattle.zuniq.specs.Codec.{IsZuniqOf};
+ghost use Rattle.mom.specs.Map.{firstFault, ValidMap};
+ghost use Rattle.build.specs.Standing.{quadAt};
+ghost use Rattle.build.specs.Add.{settingsRefusal, lengthsRefusal, cellRefusal, checkOf, mapRefusal, mapEnd, spaceRefusal};
+use merger::is_nan;
+use mom::FirstFault;
+use mom::first_fault;
+use zuniq::Decoded;
+use zuniq::Zuniq64;
+use zuniq::refusal::Refusal;
+
+pub mod counts;
+pub mod free;
+
+// Whether a call passes a check.
+pub enum Check {
+    Passed,
+    Refused(Refusal),
+}
+
+// Rows 1 to 3 of the table of refusals.
+pub fn check_settings(depth: u8, depth_threshold: u8, chi2_threshold: f64) -> Check
+    ensures { λ r. ⌜ r ≡ checkOf (settingsRefusal depth «depth_threshold» «chi2_threshold») ⌝ }
+{
+    if depth == 0 {
+        return Check::Refused(Refusal::DepthOutOfRange);
+    }
+    if depth > Zuniq64::MAX_DEPTH {
+        return Check::Refused(Refusal::DepthOutOfRange);
+    }
+    if depth_threshold > Zuniq64::MAX_DEPTH {
+        return Check::Refused(Refusal::DepthThresholdOutOfRange);
+    }
+    if is_nan(chi2_threshold) {
+        return Check::Refused(Refusal::Chi2ThresholdIsNan);
+    }
+    Check::Passed
+}
+
+// Row 4.
+pub fn check_lengths(
+    held: usize,
+    zuniqs: usize,
+    values: usize,
+    hashes: usize,
+    batch: usize,
+) -> Check
+    ensures { λ r. ⌜ r ≡ checkOf (lengthsRefusal held zuniqs values hashes batch) ⌝ }
+{
+    if zuniqs != values {
+        return Check::Refused(Refusal::LengthMismatch);
+    }
+    if held > zuniqs {
+        return Check::Refused(Refusal::LengthMismatch);
+    }
+    if hashes != batch {
+        return Check::Refused(Refusal::LengthMismatch);
+    }
+    Check::Passed
+}
+
+// Row 5.
+pub fn check_map(depth: u8, zuniqs: &[u64]) -> Check
+    ensures { λ r. ⌜ r ≡ checkOf (mapRefusal (firstFault 29 depth (now (zuniqs .entry)))) ⌝ }
+{
+    match first_fault(depth, zuniqs) {
+        FirstFault::Nothing => Check::Passed,
+        FirstFault::At(place, _) => Check::Refused(Refusal::InvalidMap(place)),
+    }
+}
+
+// Row 11.
+pub fn check_space(places: usize, held: usize, batch: usize) -> Check
+    requires { ⌜ held + batch < 2 ^ 64 ⌝ }
+    ensures { λ r. ⌜ r ≡ checkOf (spaceRefusal places held batch) ⌝ }
+{
+    if places < held + batch {
+        return Check::Refused(Refusal::NoSpace);
+    }
+    Check::Passed
+}
+
+// Where the last entry of a valid map ends, as a hash of the map's depth.
+pub fn end_of_map(depth: u8, zuniqs: &[u64]) -> u64
+    requires { ⌜ (depth ≤ 29) × ValidMap 29 depth (now zuniqs) ⌝ }
+    ensures { λ r. ⌜ r ≡ mapEnd 29 depth (now (zuniqs .entry)) ⌝ }
+{
+    let len = zuniqs.len();
+    if len == 0 {
+        return 0;
+    }
+    let Decoded::Cell(last) = Zuniq64::from_zuniq(zuniqs[len - 1]) else {
+        return 0;
+    };
+    (last.hash + 1) << (Zuniq64::DIM * (depth - last.depth))
+}
+
+// Rows 7 and 8 for one cell: `least` is the smallest hash that is above what stands before it.
+pub fn check_cell(n_hash: u64, least: u64, hash: u64, place: usize) -> Check
+    ensures { λ r. ⌜ r ≡ checkOf (cellRefusal «n_hash» least hash place) ⌝ }
+{
+    if hash >= n_hash {
+        return Check::Refused(Refusal::HashOutOfRange(place));
+    }
+    if hash < least {
+        return Check::Refused(Refusal::CellNotAbove(place));
+    }
+    Check::Passed
+}
+
+// Whether the last four of n entries are children 0 to 3 of one parent, the last one being the cell
+// given. Most cells are no fourth child: for them one test is all.
+pub fn are_siblings(zuniqs: &[u64], n: usize, depth: u8, hash: u64) -> bool
+    requires { ⌜ (n ≤ length (now zuniqs)) × IsZuniqOf 29 (getD (now zuniqs) (n - 1) 0) depth hash ⌝ }
+    ensures { λ r. ⌜ r ≡ quadAt 29 n (now (zuniqs .entry)) depth hash ⌝ }
+{
+    if hash % 4 != 3 {
+        return false;
+    }
+    if n < 4 {
+        return false;
+    }
+    let gap = sibling_gap(depth);
+    let last = zuniqs[n - 1];
+    if zuniqs[n - 2] != last - gap {
+        return false;
+    }
+    if zuniqs[n - 3] != last - 2 * gap {
+        return false;
+    }
+    zuniqs[n - 4] == last - 3 * gap
+}
+
+// How far apart the zuniqs of a cell and of the next of its depth are.
+fn sibling_gap(depth: u8) -> u64
+    requires { ⌜ depth ≤ 29 ⌝ }
+    ensures { λ r. ⌜ r ≡ 2 * 4 ^ (29 - depth) ⌝ }
+{
+    2 << (Zuniq64::DIM * (Zuniq64::MAX_DEPTH - depth))
+}

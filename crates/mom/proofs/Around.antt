@@ -1,0 +1,108 @@
+-- What lookup finds around the place to which the query's zuniq leads: in a valid map the entries that overlap the query
+-- stand there without a gap. Over any largest depth K. Assumes nothing.
+use mathlib.Core.Path.{_≡_, refl, sym, ap, _∙_}
+use mathlib.Core.Bool.{true, false, false≢true}
+use mathlib.Core.Logic.{_⊎_, inl, inr, ⊎-elim}
+use mathlib.Core.List.{List}
+use Prim.Native.Nat.{ℕ, _+_, _-_, _≤_, _<_}
+use native.Mathlib.Omega.{arith}
+use lib.ListN.{length, getD, take, drop, length-take, length-drop}
+use Rattle.zuniq.specs.Cells.{start, end}
+use Rattle.zuniq.specs.Codec.{IsZuniqOf}
+use Rattle.zuniq.specs.declared.Cell.{Cell}
+use Rattle.zuniq.proofs.Basics.{is-false, le-or-lt}
+use Rattle.zuniq.proofs.Ranges.{start-lt-end, zuniq-is-start-plus-end}
+use Rattle.mom.specs.declared.lookup.Run.{Run}
+use Rattle.mom.specs.Map.{overlaps, ValidMap}
+use Rattle.mom.specs.Lookup.{overlapped, firstFrom}
+use Rattle.mom.specs.Search.{LowerBound, OverlapsBefore, OverlapsFrom}
+use Rattle.mom.proofs.Overlaps.{overlaps-cell, overlaps-iff-meets}
+use Rattle.mom.proofs.Valid.{valid-entry, ranges-rise}
+use Rattle.mom.proofs.Runs.{first-found, first-none, overlapped-part}
+
+-- A zuniq is the sum of the two ends of its range.
+zuniq-sum : {K z d h : ℕ} → IsZuniqOf K z d h → z ≡ start K d h + end K d h
+zuniq-sum {K} {z} {d} {h} v = v .is ∙ zuniq-is-start-plus-end K d h
+
+-- The entries found on both sides of the place overlap the query, in any list.
+pub all-found : {K q place first last : ℕ} {zs : List ℕ} (c : Cell) → IsZuniqOf K q (c .depth) (c .hash)
+    → OverlapsBefore K zs c place first → OverlapsFrom K zs c place last → (i : ℕ) → first ≤ i → i < last → overlaps K q (getD zs i 0) ≡ true
+all-found {place = place} {zs = zs} c w before from i l m =
+    overlaps-cell c w (getD zs i 0) ∙ ⊎-elim (λ a. from .all i a m) (λ a. before .all i l a) (le-or-lt place i)
+
+module _ {K D q : ℕ} {zs : List ℕ} (v : ValidMap K D zs) (c : Cell) (w : IsZuniqOf K q (c .depth) (c .hash)) where
+  -- An entry below the query overlaps it if one before that does.
+  overlaps-left : (i j : ℕ) → i < j → j < length zs → getD zs j 0 < q → overlaps K q (getD zs i 0) ≡ true → overlaps K q (getD zs j 0) ≡ true
+  overlaps-left i j l m b t =
+      let x = valid-entry v i (omega arith) in
+      let y = valid-entry v j m in
+      let p = overlaps-iff-meets w (x .is) .0 t in
+      let r = ranges-rise v i j l m (x .is) (y .is) in
+      let s = start-lt-end K (y .depth) (y .hash) in
+      let u = start-lt-end K (c .depth) (c .hash) in
+      overlaps-iff-meets w (y .is) .1 (omega arith, omega (arith, zuniq-sum w, zuniq-sum (y .is)))
+
+  -- One that is not below the query overlaps it if one behind that does.
+  overlaps-right : (i j : ℕ) → i < j → j < length zs → q ≤ getD zs i 0 → overlaps K q (getD zs j 0) ≡ true → overlaps K q (getD zs i 0) ≡ true
+  overlaps-right i j l m b t =
+      let x = valid-entry v i (omega arith) in
+      let y = valid-entry v j m in
+      let p = overlaps-iff-meets w (y .is) .0 t in
+      let r = ranges-rise v i j l m (x .is) (y .is) in
+      let s = start-lt-end K (x .depth) (x .hash) in
+      let u = start-lt-end K (c .depth) (c .hash) in
+      overlaps-iff-meets w (x .is) .1 (omega (arith, zuniq-sum w, zuniq-sum (x .is)), omega arith)
+
+  module _ {place : ℕ} (at : LowerBound zs q place) where
+    -- The entries before the place are below the query, the others are not.
+    below-place : (i : ℕ) → i < place → getD zs i 0 < q
+    below-place i l =
+        ⊎-elim (λ a. let e : i ≡ place - 1 = omega arith in rw e (at .below (omega arith)))
+        (λ a. omega (arith, v .rising i (place - 1) a (omega (arith, at .within)), at .below (omega arith))) (le-or-lt (place - 1) i)
+
+    not-below-place : (i : ℕ) → place ≤ i → i < length zs → q ≤ getD zs i 0
+    not-below-place i l m =
+        ⊎-elim (λ a. let e : i ≡ place = omega arith in rw e (at .above (omega arith)))
+        (λ a. omega (arith, v .rising place i a m, at .above (omega arith))) (le-or-lt i place)
+
+    -- No entry before those found overlaps the query.
+    pub none-before : {first : ℕ} → OverlapsBefore K zs c place first → (i : ℕ) → i < first → overlaps K q (getD zs i 0) ≡ false
+    none-before {first} found i l = is-false _ (λ t. false≢true (sym (found .stops (omega arith)) ∙ sym (overlaps-cell c w (getD zs (first - 1) 0)) ∙ last t))
+      where
+        last : overlaps K q (getD zs i 0) ≡ true → overlaps K q (getD zs (first - 1) 0) ≡ true
+        last t =
+            ⊎-elim (λ a. let e : first - 1 ≡ i = omega arith in rw e t)
+            (λ a. overlaps-left i (first - 1) a (omega (arith, found .within, at .within)) (below-place (first - 1) (omega (arith, found .within))) t) (le-or-lt (first - 1) i)
+
+    -- No entry behind those found overlaps it.
+    pub none-from : {last : ℕ} → OverlapsFrom K zs c place last → (i : ℕ) → last ≤ i → i < length zs → overlaps K q (getD zs i 0) ≡ false
+    none-from {last} found i l m = is-false _ (λ t. false≢true (sym (found .stops (omega arith)) ∙ sym (overlaps-cell c w (getD zs last 0)) ∙ next t))
+      where
+        next : overlaps K q (getD zs i 0) ≡ true → overlaps K q (getD zs last 0) ≡ true
+        next t =
+            ⊎-elim (λ a. let e : last ≡ i = omega arith in rw e t)
+            (λ a. overlaps-right last i a m (not-below-place last (found .from) (omega arith)) t) (le-or-lt i last)
+
+    module _ {first last : ℕ} (before : OverlapsBefore K zs c place first) (from : OverlapsFrom K zs c place last) where
+      outside : (i : ℕ) → (i < first) ⊎ (last ≤ i) → i < length zs → overlaps K q (getD zs i 0) ≡ false
+      outside i (inl l) m = none-before before i l
+      outside i (inr l) m = none-from from i l m
+
+      found-part : (len : ℕ) → first + len ≡ last → overlapped K zs q ≡ take len (drop first zs)
+      found-part len n =
+          overlapped-part K q zs first len (omega (arith, from .within)) (λ j l. outside j (inl l) (omega (arith, before .within, at .within)))
+          (λ j l m. all-found c w before from j l (omega arith)) (λ j l m. outside j (inr (omega arith)) m)
+
+      -- The entries found are the run.
+      pub run-found : first < last → Run.Entries (firstFrom K q 0 zs) (length (overlapped K zs q)) ≡ Run.Entries first (last - first)
+      run-found l =
+          let f : firstFrom K q 0 zs ≡ first = first-found K q zs first 0 (omega (arith, from .within)) (all-found c w before from first (omega arith) l) (λ j m. outside j (inl m) (omega (arith, from .within))) ∙ omega arith in
+          let k : length (overlapped K zs q) ≡ last - first = ap length (found-part (last - first) (omega arith)) ∙ simp (length-take, length-drop) (omega (arith, from .within)) in
+          rw (f, k) refl
+
+      -- Where none is found, none overlaps the query.
+      pub run-none : last ≤ first → Run.Entries (firstFrom K q 0 zs) (length (overlapped K zs q)) ≡ Run.Entries 0 0
+      run-none l =
+          let f : firstFrom K q 0 zs ≡ 0 = first-none K q zs 0 (λ j m. ⊎-elim (λ a. outside j (inr a) m) (λ a. outside j (inl (omega arith)) m) (le-or-lt last j)) in
+          let k : length (overlapped K zs q) ≡ 0 = ap length (found-part 0 (omega (arith, before .within, from .from))) in
+          rw (f, k) refl

@@ -1,0 +1,62 @@
+-- `lookup::get_overlapped_run` meets its contract. Assumes nothing.
+use mathlib.Core.Path.{sym, _∙_}
+use borrow.Author.Needs.{needs}
+use Rattle.zuniq.proofs.Codec.{decodes}
+use Rattle.mom.proofs.Answers.{run-refused, run-answer, empty-answer}
+use Rattle.mom.proofs.lookup.get_overlapped_run.Statement.{statement}
+use Rattle.mom.proofs.lookup.get_overlapped_run.Tie as tie
+
+from-zuniq-requires : tie.Need-from-zuniq-requires
+from-zuniq-requires c κs = search needs
+
+enum-known-query : tie.Need-enum-known-query
+enum-known-query c = search needs
+
+enum-told : tie.Need-enum-told
+enum-told c = search needs
+
+returns : tie.Need-returns
+returns c = run-refused (sym (c .before .before .from-zuniq .ensures) ∙ c .enum-told .given .1)
+
+lower-bound-requires : tie.Need-lower-bound-requires
+lower-bound-requires c κs = search needs
+
+run-start-requires : tie.Need-run-start-requires
+run-start-requires c κs =
+    let query = c .before .before in
+    (decodes 29 _ _ .0 (sym (query .before .before .from-zuniq .ensures) ∙ query .query .given .1) .deep, c .lower-bound .ensures .within)
+
+run-end-requires : tie.Need-run-end-requires
+run-end-requires c κs =
+    let query = c .before .before .before in
+    (decodes 29 _ _ .0 (sym (query .before .before .from-zuniq .ensures) ∙ query .query .given .1) .deep, c .before .lower-bound .ensures .within)
+
+sub-t10 : tie.Need-sub-t10
+sub-t10 c = search needs
+
+returns-2 : tie.Need-returns-2
+returns-2 c =
+    let query = c .before .before .before .before .before in
+    run-answer (sym (query .before .before .from-zuniq .ensures) ∙ query .query .given .1)
+    (c .before .before .before .lower-bound .ensures) (c .before .before .run-start .ensures) (c .before .run-end .ensures) (c .if1 .taken)
+
+returns-3 : tie.Need-returns-3
+returns-3 c =
+    let query = c .before .before .before .before .before in
+    empty-answer (sym (query .before .before .from-zuniq .ensures) ∙ query .query .given .1)
+    (c .before .before .before .lower-bound .ensures) (c .before .before .run-start .ensures) (c .before .run-end .ensures) (c .if1 .left)
+
+pub get-overlapped-run-spec : {M : Type 1} → statement M
+get-overlapped-run-spec =
+    tie.close
+    (tie.spec
+    from-zuniq-requires
+    enum-known-query
+    enum-told
+    returns
+    lower-bound-requires
+    run-start-requires
+    run-end-requires
+    sub-t10
+    returns-2
+    returns-3)

@@ -1,0 +1,3 @@
+pub mod Map
+pub mod Lookup
+pub mod Search
