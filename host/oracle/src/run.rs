@@ -83,7 +83,9 @@ pub fn chi_of_counts_near(guess: f64, parent: u8, counts: [u32; 4]) -> Option<f6
 }
 
 pub fn chi_of_densities_near(guess: f64, parent: u8, densities: [f64; 4]) -> Option<f64> {
-    chi_near(guess, |t| merge_densities(parent, 0, t, densities).is_some())
+    chi_near(guess, |t| {
+        merge_densities(parent, 0, t, densities).is_some()
+    })
 }
 
 /// Kept at the guess, merged at the next f64 above it: only chi itself is so, or the other zero.
