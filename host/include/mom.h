@@ -1,18 +1,20 @@
-/* The C functions of libmom_c.a: cells of multi-order maps and their zuniqs.
+/* The C functions of libmom_c.a: cells of multi-order maps, their zuniqs, and the mergers.
  *
  * A cell is a depth d, 0 to 29, and a hash h below N(d) = 12 * 4^d (HEALPix, nested). Its zuniq is
- * (2h + 1) * 4^(29 - d), a u64; no other u64 is a valid zuniq.
+ * (2h + 1) * 4^(29 - d), a u64; no other u64 is a valid zuniq. The four cells that it consists of
+ * one depth further down are its children.
  *
  * Every function answers one word. Its high byte is the code:
  *
  *     0          accepted; the low 56 bits hold the answer, where the function says one
  *     1 to 64    refused: the code is the refusal's number, the low 56 bits its place, from 0
  *     MOM_NONE   there is no cell
+ *     MOM_KEPT   the four children are kept, not merged
  *
- * What doesn't fit into the word goes through a pointer. Such a number is written on acceptance
- * alone: by a refusal, and by MOM_NONE, it is left as it was. No pointer may be null, and no two
+ * What doesn't fit into the word goes through a pointer. A function says when it writes such a
+ * number: by a refusal, and by MOM_NONE, it is left as it was. No pointer may be null, and no two
  * pointers of one call may overlap. No function keeps a pointer or has a state, so any number of
- * threads may call.
+ * threads may call. A double is the 64-bit one of IEEE 754.
  *
  * Link with -lmom_c. The archive is made by `rt staticlib mom_c`.
  */
@@ -28,13 +30,18 @@ extern "C" {
 /* The codes of an answer that are no refusal. */
 #define MOM_ACCEPTED 0
 #define MOM_NONE 65
+#define MOM_KEPT 66
 
 /* The numbers of the refusals that these functions give. */
-#define MOM_DEPTH_OVER_29 1
+#define MOM_DEPTH_OUT_OF_RANGE 1
+#define MOM_DEPTH_THRESHOLD_OUT_OF_RANGE 2
+#define MOM_CHI2_THRESHOLD_IS_NAN 3
 #define MOM_HASH_OUT_OF_RANGE 7
+#define MOM_INVALID_DENSITY 9
+#define MOM_COUNT_OVERFLOW 10
 #define MOM_NOT_A_ZUNIQ 12
 
-/* The code of an answer: MOM_ACCEPTED, a refusal's number or MOM_NONE. */
+/* The code of an answer: MOM_ACCEPTED, a refusal's number, MOM_NONE or MOM_KEPT. */
 static inline uint8_t mom_code(uint64_t word) { return (uint8_t)(word >> 56); }
 
 /* The low 56 bits of an answer: the value of an accepted call or the place of a refusal. */
@@ -55,6 +62,24 @@ uint64_t mom_from_zuniq(uint64_t zuniq, uint8_t *depth, uint64_t *hash);
 /* The value is 1 where the two cells are equal or one lies inside the other, else 0.
  * Refuses by 12: one of the two isn't a valid zuniq; place 0 is the left one, 1 the right one. */
 uint64_t mom_are_overlapping(uint64_t zuniq_l, uint64_t zuniq_r);
+
+/* The counts of the four children of a cell at parent_depth are merged where parent_depth is at
+ * least depth_threshold and their chi-square is below chi2_threshold. The value is then their sum,
+ * the parent's count, and *chi2 is left as it was. Otherwise the answer is MOM_KEPT, and *chi2 =
+ * their chi-square.
+ * Refuses by 1: parent_depth is over 28; then by 2: depth_threshold is over 29; then by 3:
+ * chi2_threshold is a NaN; then by 10: the sum of the four is over 2^32 - 1. */
+uint64_t mom_chi2_count_merger(uint8_t parent_depth, uint8_t depth_threshold, double chi2_threshold,
+                               uint32_t n0, uint32_t n1, uint32_t n2, uint32_t n3, double *chi2);
+
+/* The densities of the four children are merged under the same conditions. *answer = a quarter of
+ * their sum, the parent's density, or with MOM_KEPT their chi-square, which may be NaN or infinite
+ * where the sum is near the largest double or past it.
+ * Refuses by 1, 2 and 3 as for counts; then by 9: a density is NaN, infinite or below 0 (-0 is none
+ * of these); the place is the first such child, 0 to 3. */
+uint64_t mom_chi2_density_merger(uint8_t parent_depth, uint8_t depth_threshold,
+                                 double chi2_threshold, double m0, double m1, double m2, double m3,
+                                 double *answer);
 
 #ifdef __cplusplus
 }

@@ -5,5 +5,7 @@
 
 pub mod cells;
 pub mod compare;
+pub mod floats;
 pub mod kinds;
+pub mod quads;
 pub mod random;

@@ -58,7 +58,7 @@ fn parse(mut arguments: impl Iterator<Item = String>) -> Result<Options, String>
         }
     }
     if options.kinds.is_empty() {
-        options.kinds.extend(&KINDS);
+        options.kinds.extend(KINDS);
     }
     Ok(options)
 }

@@ -122,3 +122,93 @@ fn are_overlapping_refuses_what_is_no_zuniq() {
         assert_eq!(mom::are_overlapping(left, right), refused(12, place));
     }
 }
+
+/// The original's count merger takes any depth; its density merger reads the number of cells one
+/// depth further down, where its table ends. At 255 that depth wraps to 0.
+#[test]
+fn the_mergers_refuse_a_parent_depth_over_28() {
+    assert_eq!(run::merge_counts(29, 0, 1.0, [0; 4]), Some(0));
+    assert_eq!(mom::chi2_count_merger(29, 0, 1.0, [0; 4]), refused(1, 0));
+    for parent in [29, 254] {
+        assert!(panics(|| run::merge_densities(parent, 0, 1.0, [0.0; 4])));
+        let ours = mom::chi2_density_merger(parent, 0, 1.0, [0.0; 4]);
+        assert_eq!(ours, refused(1, 0));
+    }
+    assert_overflows(|| run::merge_densities(255, 0, 1.0, [0.0; 4]), Some(0.0));
+    let ours = mom::chi2_density_merger(255, 0, 1.0, [0.0; 4]);
+    assert_eq!(ours, refused(1, 0));
+}
+
+/// The original keeps the four, as at any M above the parent's depth.
+#[test]
+fn the_mergers_refuse_a_depth_threshold_over_29() {
+    assert_eq!(run::merge_counts(0, 30, 1.0, [0; 4]), None);
+    assert_eq!(mom::chi2_count_merger(0, 30, 1.0, [0; 4]), refused(2, 0));
+    assert_eq!(run::merge_densities(0, 30, 1.0, [0.0; 4]), None);
+    let ours = mom::chi2_density_merger(0, 30, 1.0, [0.0; 4]);
+    assert_eq!(ours, refused(2, 0));
+}
+
+/// The original keeps the four, no chi being below a NaN.
+#[test]
+fn the_mergers_refuse_a_threshold_that_is_nan() {
+    let t = f64::NAN;
+    assert_eq!(run::merge_counts(0, 0, t, [0; 4]), None);
+    assert_eq!(mom::chi2_count_merger(0, 0, t, [0; 4]), refused(3, 0));
+    assert_eq!(run::merge_densities(0, 0, t, [0.0; 4]), None);
+    let ours = mom::chi2_density_merger(0, 0, t, [0.0; 4]);
+    assert_eq!(ours, refused(3, 0));
+}
+
+#[test]
+fn the_count_merger_refuses_a_sum_that_overflows() {
+    let counts = [u32::MAX, 1, 0, 0];
+    let t = f64::INFINITY;
+    assert_overflows(|| run::merge_counts(0, 0, t, counts), Some(0));
+    assert_eq!(mom::chi2_count_merger(0, 0, t, counts), refused(10, 0));
+}
+
+/// By T or by M: the original then never adds them up.
+#[test]
+fn the_count_merger_refuses_a_sum_that_overflows_of_counts_that_are_kept() {
+    let counts = [u32::MAX, 1, 0, 0];
+    for (m, t) in [(0, 0.0), (1, f64::INFINITY)] {
+        assert_eq!(run::merge_counts(0, m, t, counts), None);
+        assert_eq!(mom::chi2_count_merger(0, m, t, counts), refused(10, 0));
+    }
+}
+
+/// A negative density lowers chi, to −∞ at the least, so that the original merges.
+#[test]
+fn the_density_merger_refuses_what_is_below_0() {
+    let merged = [
+        (-5e-324, -0.0),
+        (-1.0, -0.25),
+        (f64::NEG_INFINITY, f64::NEG_INFINITY),
+    ];
+    for (faulty, density) in merged {
+        for child in 0..4 {
+            let mut densities = [0.0; 4];
+            densities[child] = faulty;
+            let answer = run::merge_densities(0, 0, 0.0, densities).map(f64::to_bits);
+            assert_eq!(answer, Some(f64::to_bits(density)), "{densities:?}");
+            let ours = mom::chi2_density_merger(0, 0, 0.0, densities);
+            assert_eq!(ours, refused(9, child as u64));
+        }
+    }
+}
+
+/// The sum and chi are NaN or infinite, so that the original keeps the four at any T.
+#[test]
+fn the_density_merger_refuses_what_is_nan_or_infinite() {
+    let t = f64::INFINITY;
+    for faulty in [f64::NAN, f64::INFINITY] {
+        for child in 0..4 {
+            let mut densities = [0.0; 4];
+            densities[child] = faulty;
+            assert_eq!(run::merge_densities(0, 0, t, densities), None);
+            let ours = mom::chi2_density_merger(0, 0, t, densities);
+            assert_eq!(ours, refused(9, child as u64));
+        }
+    }
+}

@@ -1,9 +1,11 @@
-//! The random inputs, against faults that would have the comparison say less than it seems to.
+//! The inputs, against faults that would have the comparison say less than it seems to.
 
 use std::collections::HashSet;
 
 use differential::{
     cells::{cells_to, n_hash, Cell, DEPTH_MAX},
+    floats::Float,
+    quads::{unit_density, Call, Quad, PARENT_DEPTH_MAX},
     random::Random,
 };
 
@@ -60,4 +62,151 @@ fn no_answer_of_the_overlap_test_is_rare() {
         })
         .count() as u64;
     assert!(overlapping > DRAWN / 4 && overlapping < DRAWN * 3 / 4);
+}
+
+fn drawn_counts() -> impl Iterator<Item = Call<u32>> {
+    let mut random = Random::new(4);
+    (0..DRAWN).map(move |_| Call::<u32>::random(&mut random))
+}
+
+fn drawn_densities() -> impl Iterator<Item = Call<Float>> {
+    let mut random = Random::new(5);
+    (0..DRAWN).map(move |_| Call::<Float>::random(&mut random))
+}
+
+/// The parent depth, M, chi and T of all of them.
+fn drawn_settings() -> impl Iterator<Item = (u8, u8, f64, f64)> {
+    fn setting<V>(chi: f64, call: Call<V>) -> (u8, u8, f64, f64) {
+        let t = call.chi2_threshold.0;
+        (call.quad.parent_depth, call.depth_threshold, chi, t)
+    }
+    let of_counts = drawn_counts().map(|call| setting(call.quad.chi(), call));
+    let of_densities = drawn_densities().map(|call| setting(call.quad.chi(), call));
+    of_counts.chain(of_densities)
+}
+
+/// A name, and whether an input belongs to it.
+type Class<T> = (&'static str, fn(&T) -> bool);
+
+/// None may have less than one input in a thousand.
+fn assert_none_is_rare<T>(inputs: impl Iterator<Item = T>, classes: &[Class<T>]) {
+    let inputs: Vec<T> = inputs.collect();
+    for (name, belongs) in classes {
+        let members = inputs.iter().filter(|input| belongs(input)).count();
+        let number = inputs.len();
+        assert!(members * 1000 > number, "{name}: {members} of {number}");
+    }
+}
+
+#[test]
+fn no_quad_and_no_setting_is_refused() {
+    for call in drawn_counts() {
+        let sum: u64 = call.quad.values.map(u64::from).iter().sum();
+        assert!(sum <= u32::MAX as u64, "{call:?}");
+    }
+    for call in drawn_densities() {
+        let densities = call.quad.densities();
+        assert!(
+            densities.iter().all(|m| m.is_finite() && *m >= 0.0),
+            "{call:?}"
+        );
+    }
+    for (p, m, _, t) in drawn_settings() {
+        assert!(
+            p <= PARENT_DEPTH_MAX && m <= DEPTH_MAX && !t.is_nan(),
+            "{p} {m} {t}"
+        );
+    }
+}
+
+#[test]
+fn no_parent_depth_and_no_side_of_m_is_missed() {
+    let drawn: HashSet<_> = drawn_settings().map(|(p, m, ..)| (p, m)).collect();
+    for p in 0..=PARENT_DEPTH_MAX {
+        for m in [0, p.saturating_sub(1), p, p + 1, DEPTH_MAX] {
+            assert!(drawn.contains(&(p, m)), "({p}, {m})");
+        }
+    }
+}
+
+#[test]
+fn no_answer_of_a_merger_is_rare() {
+    let merged = drawn_settings().filter(|(p, m, chi, t)| p >= m && chi < t);
+    let (merged, all) = (merged.count() as u64, 2 * DRAWN);
+    assert!(merged > all / 4 && merged < all * 3 / 4, "{merged}");
+}
+
+#[test]
+fn no_threshold_is_rare() {
+    assert_none_is_rare(
+        drawn_settings().map(|(_, _, chi, t)| (chi, t)),
+        &[
+            ("chi", |&(chi, t)| t == chi),
+            ("next above chi", |&(chi, t)| t == chi.next_up()),
+            ("next below chi", |&(chi, t)| t == chi.next_down()),
+            ("0", |&(_, t)| Float(t) == Float(0.0)),
+            ("-0", |&(_, t)| Float(t) == Float(-0.0)),
+            ("infinity", |&(_, t)| t == f64::INFINITY),
+            ("-infinity", |&(_, t)| t == f64::NEG_INFINITY),
+            ("negative", |&(_, t)| t < 0.0 && t.is_finite()),
+            ("recommended", |&(_, t)| t == 16.266),
+        ],
+    );
+}
+
+#[test]
+fn no_counts_are_rare() {
+    assert_none_is_rare(
+        drawn_counts().map(|call| (call.quad.values, call.quad.chi())),
+        &[
+            ("small", |(n, _)| n.iter().all(|&n| n < 8)),
+            ("a zero", |(n, _)| n.contains(&0)),
+            ("no zero", |(n, _)| !n.contains(&0)),
+            ("all equal", |(n, _)| *n == [n[0]; 4] && n[0] > 0),
+            ("near 2^32", |(n, _)| n.iter().any(|&n| n > u32::MAX - 16)),
+            ("sum 2^32 - 1", |(n, _)| {
+                n.map(u64::from).iter().sum::<u64>() == u32::MAX as u64
+            }),
+            ("chi 0", |(_, chi)| *chi == 0.0),
+            ("chi below 0", |(_, chi)| *chi < 0.0),
+            ("usual chi", |(_, chi)| *chi > 1.0 && *chi < 20.0),
+        ],
+    );
+}
+
+#[test]
+fn no_densities_are_rare() {
+    let drawn = drawn_densities().map(|call| {
+        let c = unit_density(call.quad.parent_depth);
+        (c, call.quad.densities(), call.quad.chi())
+    });
+    assert_none_is_rare(
+        drawn,
+        &[
+            ("a 0", |(_, m, _)| m.map(Float).contains(&Float(0.0))),
+            ("a -0", |(_, m, _)| m.map(Float).contains(&Float(-0.0))),
+            ("all -0", |(_, m, _)| m.map(Float) == [Float(-0.0); 4]),
+            ("subnormal", |(_, m, _)| m.iter().any(|m| m.is_subnormal())),
+            ("least normal", |(_, m, _)| m.contains(&f64::MIN_POSITIVE)),
+            ("largest", |(_, m, _)| m.contains(&f64::MAX)),
+            ("c", |(c, m, _)| m.contains(c)),
+            ("next above c", |(c, m, _)| m.contains(&c.next_up())),
+            ("next below c", |(c, m, _)| m.contains(&c.next_down())),
+            ("all equal", |(_, m, _)| *m == [m[0]; 4] && m[0] > 0.0),
+            ("chi 0", |(_, _, chi)| *chi == 0.0),
+            ("chi below 0", |(_, _, chi)| *chi < 0.0),
+            ("usual chi", |(_, _, chi)| *chi > 1.0 && *chi < 20.0),
+            ("chi NaN", |(_, _, chi)| chi.is_nan()),
+            ("chi infinite", |(_, _, chi)| *chi == f64::INFINITY),
+            ("chi -infinite", |(_, _, chi)| *chi == f64::NEG_INFINITY),
+        ],
+    );
+}
+
+#[test]
+fn no_small_quad_is_left_out() {
+    let quads: HashSet<_> = Quad::<u32>::small(0).map(|quad| quad.values).collect();
+    assert_eq!(quads.len(), 8 * 8 * 8 * 8);
+    assert!(quads.contains(&[7, 0, 3, 5]));
+    assert_eq!(Quad::<Float>::small(0).count(), 10_000);
 }

@@ -1,14 +1,19 @@
 //! Multi-order maps: safe calls of the proved functions in libmom_c.a.
 //!
 //! A cell is a depth, 0 to 29, and a hash below N(depth) = 12 × 4^depth (HEALPix, nested). Its
-//! zuniq is (2 × hash + 1) × 4^(29 − depth). Nothing here panics, whatever the arguments: a call
-//! that can't be answered is refused, with the number and the place of the scope's table.
+//! zuniq is (2 × hash + 1) × 4^(29 − depth). The values of four children of one cell may be merged
+//! into one of their parent. Nothing here panics, whatever the arguments: a call that can't be
+//! answered is refused, with the number and the place of the scope's table.
 //!
 //! ```
 //! let zuniq = mom::to_zuniq(1, 3).unwrap();
 //! assert_eq!(zuniq, 504403158265495552);
 //! assert_eq!(mom::from_zuniq(zuniq), Some((1, 3)));
 //! assert_eq!(mom::to_zuniq(1, 48), Err(mom::Refusal { number: 7, place: 0 }));
+//!
+//! let merge = |chi2_threshold| mom::chi2_count_merger(0, 0, chi2_threshold, [1, 2, 4, 4]).unwrap();
+//! assert_eq!(merge(3.5), mom::CountMerge::Merged(11));
+//! assert_eq!(merge(3.0), mom::CountMerge::Kept(3.0));
 //! ```
 
 mod raw;
@@ -29,6 +34,21 @@ impl fmt::Display for Refusal {
 }
 
 impl Error for Refusal {}
+
+/// What becomes of four counts: their parent's count, or that they are kept, with their chi-square.
+#[derive(Clone, Copy, Debug, PartialEq)]
+pub enum CountMerge {
+    Merged(u32),
+    Kept(f64),
+}
+
+/// What becomes of four densities: their parent's density, or that they are kept, with their
+/// chi-square.
+#[derive(Clone, Copy, Debug, PartialEq)]
+pub enum DensityMerge {
+    Merged(f64),
+    Kept(f64),
+}
 
 /// The number of cells at a depth. Refused by 1: the depth is over 29.
 pub fn n_hash(depth: u8) -> Result<u64, Refusal> {
@@ -57,4 +77,57 @@ pub fn from_zuniq(zuniq: u64) -> Option<(u8, u64)> {
 pub fn are_overlapping(zuniq_l: u64, zuniq_r: u64) -> Result<bool, Refusal> {
     let overlaps = raw::accepted(raw::mom_are_overlapping(zuniq_l, zuniq_r))?;
     Ok(overlaps != 0)
+}
+
+/// The counts of the four children of a cell at `parent_depth`, merged where that is at least
+/// `depth_threshold` and their chi-square is below `chi2_threshold`. Refused by 1: the parent depth
+/// is over 28; then by 2: the depth threshold is over 29; then by 3: the chi-square threshold is a
+/// NaN; then by 10: the sum of the four is no u32.
+pub fn chi2_count_merger(
+    parent_depth: u8,
+    depth_threshold: u8,
+    chi2_threshold: f64,
+    [n0, n1, n2, n3]: [u32; 4],
+) -> Result<CountMerge, Refusal> {
+    let mut chi2 = 0.0;
+    let merged = raw::merged(raw::mom_chi2_count_merger(
+        parent_depth,
+        depth_threshold,
+        chi2_threshold,
+        n0,
+        n1,
+        n2,
+        n3,
+        &mut chi2,
+    ))?;
+    Ok(match merged {
+        Some(count) => CountMerge::Merged(count as u32),
+        None => CountMerge::Kept(chi2),
+    })
+}
+
+/// The densities of the four children, merged under the same conditions. Refused by 1, 2 and 3 as
+/// for counts; then by 9: a density is NaN, infinite or below 0 (−0 is none of these); the place is
+/// the first such child.
+pub fn chi2_density_merger(
+    parent_depth: u8,
+    depth_threshold: u8,
+    chi2_threshold: f64,
+    [m0, m1, m2, m3]: [f64; 4],
+) -> Result<DensityMerge, Refusal> {
+    let mut answer = 0.0;
+    let merged = raw::merged(raw::mom_chi2_density_merger(
+        parent_depth,
+        depth_threshold,
+        chi2_threshold,
+        m0,
+        m1,
+        m2,
+        m3,
+        &mut answer,
+    ))?;
+    Ok(match merged {
+        Some(_) => DensityMerge::Merged(answer),
+        None => DensityMerge::Kept(answer),
+    })
 }

@@ -10,16 +10,39 @@ unsafe extern "C" {
     pub safe fn mom_to_zuniq(depth: u8, hash: u64, zuniq: &mut u64) -> u64;
     pub safe fn mom_from_zuniq(zuniq: u64, depth: &mut u8, hash: &mut u64) -> u64;
     pub safe fn mom_are_overlapping(zuniq_l: u64, zuniq_r: u64) -> u64;
+    pub safe fn mom_chi2_count_merger(
+        parent_depth: u8,
+        depth_threshold: u8,
+        chi2_threshold: f64,
+        n0: u32,
+        n1: u32,
+        n2: u32,
+        n3: u32,
+        chi2: &mut f64,
+    ) -> u64;
+    pub safe fn mom_chi2_density_merger(
+        parent_depth: u8,
+        depth_threshold: u8,
+        chi2_threshold: f64,
+        m0: f64,
+        m1: f64,
+        m2: f64,
+        m3: f64,
+        answer: &mut f64,
+    ) -> u64;
 }
 
 /// The high byte of a word that says "there is none".
 const NONE: u8 = 65;
+/// The high byte of a word that says "the four children are kept".
+const KEPT: u8 = 66;
 
-/// What a word says: an answer, that there is none, or a refusal.
+/// What a word says: an answer, that there is none, that four are kept, or a refusal.
 #[derive(Debug, PartialEq)]
 enum Answer {
     Accepted(u64),
     None,
+    Kept,
     Refused(Refusal),
 }
 
@@ -30,6 +53,7 @@ fn unpack(word: u64) -> Answer {
         0 => Answer::Accepted(place),
         1..=64 => Answer::Refused(Refusal { number, place }),
         NONE => Answer::None,
+        KEPT => Answer::Kept,
         _ => unknown(word),
     }
 }
@@ -39,7 +63,7 @@ pub fn accepted(word: u64) -> Result<u64, Refusal> {
     match unpack(word) {
         Answer::Accepted(answer) => Ok(answer),
         Answer::Refused(refusal) => Err(refusal),
-        Answer::None => unknown(word),
+        Answer::None | Answer::Kept => unknown(word),
     }
 }
 
@@ -48,7 +72,17 @@ pub fn answered(word: u64) -> Option<u64> {
     match unpack(word) {
         Answer::Accepted(answer) => Some(answer),
         Answer::None => None,
-        Answer::Refused(_) => unknown(word),
+        Answer::Kept | Answer::Refused(_) => unknown(word),
+    }
+}
+
+/// What a merger's call answers for merged children, or none where they are kept.
+pub fn merged(word: u64) -> Result<Option<u64>, Refusal> {
+    match unpack(word) {
+        Answer::Accepted(answer) => Ok(Some(answer)),
+        Answer::Kept => Ok(None),
+        Answer::Refused(refusal) => Err(refusal),
+        Answer::None => unknown(word),
     }
 }
 
@@ -62,19 +96,34 @@ mod tests {
     use super::*;
 
     /// Numbers that no call below would write, so that a write shows.
-    const KEPT: u64 = 0xdead_beef_0bad_cafe;
-    const KEPT_DEPTH: u8 = 0xa5;
+    const UNTOUCHED: u64 = 0xdead_beef_0bad_cafe;
+    const UNTOUCHED_DEPTH: u8 = 0xa5;
+    const UNTOUCHED_F64: f64 = 123456.789;
 
     fn refused(number: u8, place: u64) -> u64 {
         (number as u64) << 56 | place
     }
 
+    /// The word of the count merger, and what stands behind its pointer after it.
+    fn count_merger(p: u8, m: u8, t: f64, [n0, n1, n2, n3]: [u32; 4]) -> (u64, f64) {
+        let mut chi2 = UNTOUCHED_F64;
+        let word = mom_chi2_count_merger(p, m, t, n0, n1, n2, n3, &mut chi2);
+        (word, chi2)
+    }
+
+    /// The same of the density merger.
+    fn density_merger(p: u8, m: u8, t: f64, [m0, m1, m2, m3]: [f64; 4]) -> (u64, f64) {
+        let mut answer = UNTOUCHED_F64;
+        let word = mom_chi2_density_merger(p, m, t, m0, m1, m2, m3, &mut answer);
+        (word, answer)
+    }
+
     #[test]
     fn a_refused_n_hash_writes_nothing() {
         for depth in 30..=255 {
-            let mut n_hash = KEPT;
+            let mut n_hash = UNTOUCHED;
             assert_eq!(mom_n_hash(depth, &mut n_hash), refused(1, 0));
-            assert_eq!(n_hash, KEPT);
+            assert_eq!(n_hash, UNTOUCHED);
         }
     }
 
@@ -87,32 +136,33 @@ mod tests {
             (29, u64::MAX, 7),
         ];
         for (depth, hash, number) in cells {
-            let mut zuniq = KEPT;
+            let mut zuniq = UNTOUCHED;
             assert_eq!(
                 mom_to_zuniq(depth, hash, &mut zuniq),
                 refused(number, 0),
                 "({depth}, {hash})"
             );
-            assert_eq!(zuniq, KEPT);
+            assert_eq!(zuniq, UNTOUCHED);
         }
     }
 
     #[test]
     fn no_cell_writes_no_depth_and_no_hash() {
         for zuniq in [0, 2, 1 << 60, 6917529027641081857, u64::MAX] {
-            let (mut depth, mut hash) = (KEPT_DEPTH, KEPT);
+            let (mut depth, mut hash) = (UNTOUCHED_DEPTH, UNTOUCHED);
             assert_eq!(
                 mom_from_zuniq(zuniq, &mut depth, &mut hash),
                 refused(NONE, 0),
                 "{zuniq}"
             );
-            assert_eq!((depth, hash), (KEPT_DEPTH, KEPT));
+            assert_eq!((depth, hash), (UNTOUCHED_DEPTH, UNTOUCHED));
         }
     }
 
     #[test]
     fn an_accepted_call_writes_all_it_promises_and_answers_zero() {
-        let (mut n_hash, mut zuniq, mut depth, mut hash) = (KEPT, KEPT, KEPT_DEPTH, KEPT);
+        let (mut n_hash, mut zuniq, mut depth, mut hash) =
+            (UNTOUCHED, UNTOUCHED, UNTOUCHED_DEPTH, UNTOUCHED);
         assert_eq!(mom_n_hash(0, &mut n_hash), 0);
         assert_eq!(mom_to_zuniq(29, 0, &mut zuniq), 0);
         assert_eq!(mom_from_zuniq(1, &mut depth, &mut hash), 0);
@@ -128,6 +178,78 @@ mod tests {
     }
 
     #[test]
+    fn a_refused_count_merger_writes_nothing() {
+        let calls = [
+            (29, 0, 1.0, [0; 4], 1),
+            (255, 255, f64::NAN, [u32::MAX; 4], 1),
+            (28, 30, 1.0, [0; 4], 2),
+            (0, 255, f64::NAN, [u32::MAX; 4], 2),
+            (28, 29, f64::NAN, [0; 4], 3),
+            (0, 0, -f64::NAN, [u32::MAX; 4], 3),
+            (0, 0, f64::INFINITY, [u32::MAX, 1, 0, 0], 10),
+            (0, 29, f64::NEG_INFINITY, [u32::MAX; 4], 10),
+        ];
+        for (p, m, t, counts, number) in calls {
+            assert_eq!(
+                count_merger(p, m, t, counts),
+                (refused(number, 0), UNTOUCHED_F64),
+                "{p} {m} {t} {counts:?}"
+            );
+        }
+    }
+
+    #[test]
+    fn a_refused_density_merger_writes_nothing() {
+        let calls = [
+            (29, 0, 1.0, [0.0; 4], 1, 0),
+            (255, 255, f64::NAN, [f64::NAN; 4], 1, 0),
+            (28, 30, 1.0, [0.0; 4], 2, 0),
+            (0, 255, f64::NAN, [f64::NAN; 4], 2, 0),
+            (28, 29, f64::NAN, [0.0; 4], 3, 0),
+            (0, 0, -f64::NAN, [f64::NAN; 4], 3, 0),
+            (0, 0, 1.0, [-5e-324, 0.0, 0.0, 0.0], 9, 0),
+            (0, 0, 1.0, [0.0, f64::INFINITY, 0.0, -1.0], 9, 1),
+            (0, 0, 1.0, [0.0, -0.0, f64::NAN, -1.0], 9, 2),
+            (0, 29, -1.0, [0.0, 1.0, 2.0, f64::NEG_INFINITY], 9, 3),
+        ];
+        for (p, m, t, densities, number, place) in calls {
+            assert_eq!(
+                density_merger(p, m, t, densities),
+                (refused(number, place), UNTOUCHED_F64),
+                "{p} {m} {t} {densities:?}"
+            );
+        }
+    }
+
+    #[test]
+    fn merged_counts_write_no_chi_and_kept_ones_answer_no_count() {
+        let counts = [1, 2, 4, 4];
+        assert_eq!(count_merger(0, 0, 3.5, counts), (11, UNTOUCHED_F64));
+        assert_eq!(count_merger(0, 0, 3.0, counts), (refused(KEPT, 0), 3.0));
+        assert_eq!(count_merger(0, 1, 3.5, counts), (refused(KEPT, 0), 3.0));
+        let largest = [u32::MAX, 0, 0, 0];
+        let word = u32::MAX as u64;
+        assert_eq!(
+            count_merger(28, 28, f64::INFINITY, largest),
+            (word, UNTOUCHED_F64)
+        );
+    }
+
+    #[test]
+    fn merged_and_kept_densities_are_told_apart_by_the_word_alone() {
+        let densities = [16.0; 4];
+        assert_eq!(density_merger(0, 0, 3.5, densities), (0, 16.0));
+        assert_eq!(
+            density_merger(0, 0, 0.0, densities),
+            (refused(KEPT, 0), 0.0)
+        );
+        assert_eq!(
+            density_merger(0, 1, 3.5, densities),
+            (refused(KEPT, 0), 0.0)
+        );
+    }
+
+    #[test]
     fn no_part_of_a_word_is_lost() {
         let widest = u64::MAX >> 8;
         assert_eq!(unpack(widest), Answer::Accepted(widest));
@@ -139,11 +261,20 @@ mod tests {
             assert_eq!(unpack(refused(number, widest)), Answer::Refused(refusal));
         }
         assert_eq!(unpack(refused(NONE, 0)), Answer::None);
+        assert_eq!(unpack(refused(KEPT, 0)), Answer::Kept);
+        assert_eq!(merged(widest), Ok(Some(widest)));
+        assert_eq!(merged(refused(KEPT, 0)), Ok(None));
     }
 
     #[test]
     #[should_panic(expected = "mom.h doesn't allow")]
     fn an_unknown_code_is_not_taken_for_an_answer() {
-        unpack(refused(66, 0));
+        unpack(refused(67, 0));
+    }
+
+    #[test]
+    #[should_panic(expected = "mom.h doesn't allow")]
+    fn that_there_is_none_is_not_taken_for_kept() {
+        let _ = merged(refused(NONE, 0));
     }
 }

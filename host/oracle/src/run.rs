@@ -66,6 +66,9 @@ pub fn merge_densities(parent: u8, m: u8, t: f64, densities: [f64; 4]) -> Option
     new_chi2_density_merger::<u64, f64>(t, Some(m))(parent, 0, densities).ok()
 }
 
+/// The original keeps its chi to itself but merges exactly where chi < T, so that bisection on T
+/// finds it. None stands for NaN and for infinity, which no T exceeds; a zero is answered as +0,
+/// since no T tells it from −0.
 pub fn chi_of_counts(parent: u8, counts: [u32; 4]) -> Option<f64> {
     chi_by_bisection(|t| merge_counts(parent, 0, t, counts).is_some())
 }
@@ -74,8 +77,25 @@ pub fn chi_of_densities(parent: u8, densities: [f64; 4]) -> Option<f64> {
     chi_by_bisection(|t| merge_densities(parent, 0, t, densities).is_some())
 }
 
-/// The original keeps its chi to itself but merges exactly where chi < T, so that bisection on T
-/// finds it. None stands for NaN and for infinity, which no T exceeds; a zero is answered as +0.
+/// The same, in two calls of the original where the guess is right.
+pub fn chi_of_counts_near(guess: f64, parent: u8, counts: [u32; 4]) -> Option<f64> {
+    chi_near(guess, |t| merge_counts(parent, 0, t, counts).is_some())
+}
+
+pub fn chi_of_densities_near(guess: f64, parent: u8, densities: [f64; 4]) -> Option<f64> {
+    chi_near(guess, |t| {
+        merge_densities(parent, 0, t, densities).is_some()
+    })
+}
+
+/// Kept at the guess, merged at the next f64 above it: only chi itself is so, or the other zero.
+fn chi_near(guess: f64, merges_at: impl Fn(f64) -> bool) -> Option<f64> {
+    if !merges_at(guess) && merges_at(guess.next_up()) {
+        return Some(if guess == 0.0 { 0.0 } else { guess });
+    }
+    chi_by_bisection(merges_at)
+}
+
 fn chi_by_bisection(merges_at: impl Fn(f64) -> bool) -> Option<f64> {
     let infinity = f64::INFINITY.to_bits() as i128;
     let (mut kept, mut merged) = (-1 - infinity, infinity);

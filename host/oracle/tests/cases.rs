@@ -25,7 +25,31 @@ fn bisection_finds_the_chi() {
     assert_eq!(run::chi_of_counts(0, [1, 2, 4, 4]), Some(3.0));
     assert_eq!(run::chi_of_counts(0, [0, 0, 0, 5]), Some(5.0));
     assert_eq!(run::chi_of_counts(0, [4, 4, 4, 4]), Some(0.0));
+    assert_eq!(run::chi_of_densities(0, [16.0; 4]), Some(0.0));
     assert_eq!(run::chi_of_densities(0, [f64::MAX; 4]), None);
+}
+
+#[test]
+fn no_guess_changes_the_chi() {
+    let guesses = [
+        0.0,
+        -0.0,
+        3.0f64.next_down(),
+        3.0,
+        3.0f64.next_up(),
+        f64::INFINITY,
+        f64::NEG_INFINITY,
+        f64::NAN,
+    ];
+    for guess in guesses {
+        let counts = |counts| run::chi_of_counts_near(guess, 0, counts);
+        assert_eq!(counts([1, 2, 4, 4]), Some(3.0));
+        assert_eq!(counts([4, 4, 4, 4]).map(f64::to_bits), Some(0));
+        let densities = |densities| run::chi_of_densities_near(guess, 0, densities);
+        assert_eq!(densities([16.0; 4]).map(f64::to_bits), Some(0));
+        assert_eq!(densities([f64::MAX; 4]), None);
+        assert_eq!(densities([f64::MAX, f64::MAX, 0.0, 0.0]), None);
+    }
 }
 
 #[test]

@@ -1,6 +1,9 @@
 //! Every kind of comparison, in the order of the scope's sections.
 
 mod are_overlapping;
+mod chi;
+mod count_merger;
+mod density_merger;
 mod from_zuniq;
 mod n_hash;
 mod to_zuniq;
@@ -8,6 +11,9 @@ mod to_zuniq;
 use crate::compare::{compare, Kind, Plan, Report};
 
 pub use are_overlapping::AreOverlapping;
+pub use chi::{CountChi, DensityChi};
+pub use count_merger::CountMerger;
+pub use density_merger::DensityMerger;
 pub use from_zuniq::FromZuniq;
 pub use n_hash::NHash;
 pub use to_zuniq::ToZuniq;
@@ -24,9 +30,13 @@ const fn entry<K: Kind>() -> Entry {
     }
 }
 
-pub static KINDS: [Entry; 4] = [
+pub static KINDS: &[Entry] = &[
     entry::<NHash>(),
     entry::<ToZuniq>(),
     entry::<FromZuniq>(),
     entry::<AreOverlapping>(),
+    entry::<CountMerger>(),
+    entry::<DensityMerger>(),
+    entry::<CountChi>(),
+    entry::<DensityChi>(),
 ];

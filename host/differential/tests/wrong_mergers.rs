@@ -1,0 +1,133 @@
+//! Wrong mergers: the random inputs must tell each from the scope's often enough for a short run to
+//! find it, by whether the four are merged alone.
+
+use differential::{
+    floats::Float,
+    quads::{unit_density, Call},
+    random::Random,
+};
+
+const DRAWN: usize = 200_000;
+
+fn merges<V>(chi: f64, call: &Call<V>) -> bool {
+    call.quad.parent_depth >= call.depth_threshold && chi < call.chi2_threshold.0
+}
+
+fn drawn_counts() -> impl Iterator<Item = Call<u32>> {
+    let mut random = Random::new(6);
+    (0..DRAWN).map(move |_| Call::<u32>::random(&mut random))
+}
+
+fn drawn_densities() -> impl Iterator<Item = Call<Float>> {
+    let mut random = Random::new(7);
+    (0..DRAWN).map(move |_| Call::<Float>::random(&mut random))
+}
+
+fn assert_found(wrong: &str, differing: usize) {
+    assert!(differing * 1000 > DRAWN, "{wrong}: {differing} of {DRAWN}");
+}
+
+/// The rule is asked the parent's depth less M, chi, and T.
+fn assert_rule_is_found(wrong: &str, rule: fn(i16, f64, f64) -> bool) {
+    fn differs<V>(rule: fn(i16, f64, f64) -> bool, chi: f64, call: &Call<V>) -> bool {
+        let above = call.quad.parent_depth as i16 - call.depth_threshold as i16;
+        rule(above, chi, call.chi2_threshold.0) != merges(chi, call)
+    }
+    let counts = drawn_counts().filter(|call| differs(rule, call.quad.chi(), call));
+    assert_found(wrong, counts.count());
+    let densities = drawn_densities().filter(|call| differs(rule, call.quad.chi(), call));
+    assert_found(wrong, densities.count());
+}
+
+#[test]
+fn no_wrong_rule_is_missed() {
+    assert_rule_is_found("chi at T", |above, chi, t| above >= 0 && chi <= t);
+    assert_rule_is_found("the child's depth", |above, chi, t| above >= -1 && chi < t);
+    assert_rule_is_found("above M alone", |above, chi, t| above > 0 && chi < t);
+    assert_rule_is_found("without M", |_, chi, t| chi < t);
+    assert_rule_is_found("T as an f32", |above, chi, t| {
+        above >= 0 && chi < t as f32 as f64
+    });
+}
+
+fn sum([x0, x1, x2, x3]: [f64; 4]) -> f64 {
+    ((x0 + x1) + x2) + x3
+}
+
+fn in_pairs([x0, x1, x2, x3]: [f64; 4]) -> f64 {
+    (x0 + x1) + (x2 + x3)
+}
+
+fn backwards([x0, x1, x2, x3]: [f64; 4]) -> f64 {
+    x0 + (x1 + (x2 + x3))
+}
+
+fn excess(sum: f64, w: f64) -> f64 {
+    sum - 4.0 * (4.0 / w)
+}
+
+/// The 1/n.
+fn inverse(n: [f64; 4]) -> [f64; 4] {
+    n.map(|n| 1.0 / n)
+}
+
+fn assert_count_chi_is_found(wrong: &str, chi: fn([f64; 4]) -> f64) {
+    let differing = drawn_counts().filter(|call| {
+        let wrong = chi(call.quad.values.map(f64::from));
+        merges(wrong, call) != merges(call.quad.chi(), call)
+    });
+    assert_found(wrong, differing.count());
+}
+
+#[test]
+fn no_wrong_chi_of_counts_is_missed() {
+    assert_count_chi_is_found("w in pairs", |n| excess(sum(n), in_pairs(inverse(n))));
+    assert_count_chi_is_found("w backwards", |n| excess(sum(n), backwards(inverse(n))));
+    assert_count_chi_is_found("zeros left out", |n| {
+        excess(sum(n), sum(n.map(|n| if n > 0.0 { 1.0 / n } else { 0.0 })))
+    });
+    assert_count_chi_is_found("counts as f32s", |n| {
+        let n = n.map(|n| n as f32 as f64);
+        excess(sum(n), sum(inverse(n)))
+    });
+}
+
+/// The 1/max(m, c).
+fn bounded(c: f64, m: [f64; 4]) -> [f64; 4] {
+    m.map(|m| 1.0 / if m > c { m } else { c })
+}
+
+fn assert_density_chi_is_found(wrong: &str, chi: fn(f64, [f64; 4]) -> f64) {
+    let differing = drawn_densities().filter(|call| {
+        let c = unit_density(call.quad.parent_depth);
+        let wrong = chi(c, call.quad.densities());
+        merges(wrong, call) != merges(call.quad.chi(), call)
+    });
+    assert_found(wrong, differing.count());
+}
+
+#[test]
+fn no_wrong_chi_of_densities_is_missed() {
+    assert_density_chi_is_found("sum in pairs", |c, m| {
+        excess(in_pairs(m), sum(bounded(c, m))) / c
+    });
+    assert_density_chi_is_found("w backwards", |c, m| {
+        excess(sum(m), backwards(bounded(c, m))) / c
+    });
+    assert_density_chi_is_found("without the max", |c, m| {
+        excess(sum(m), sum(inverse(m))) / c
+    });
+    assert_density_chi_is_found("the min", |c, m| {
+        excess(sum(m), sum(inverse(m.map(|m| m.min(c))))) / c
+    });
+    assert_density_chi_is_found("not over c", |c, m| excess(sum(m), sum(bounded(c, m))));
+    assert_density_chi_is_found("times 1/c", |c, m| {
+        excess(sum(m), sum(bounded(c, m))) * (1.0 / c)
+    });
+    assert_density_chi_is_found("the children's c", |c, m| {
+        excess(sum(m), sum(bounded(4.0 * c, m))) / (4.0 * c)
+    });
+    assert_density_chi_is_found("c one f64 above", |c, m| {
+        excess(sum(m), sum(bounded(c.next_up(), m))) / c.next_up()
+    });
+}
