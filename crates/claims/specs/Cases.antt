@@ -3,7 +3,7 @@
 use mathlib.Core.Path.{_≡_, refl}
 use mathlib.Core.Bool.{Bool, true, false, _&&_}
 use mathlib.Core.List.{List, [], _∷_, _++_}
-use Prim.Native.Nat.{ℕ, _-_}
+use Prim.Native.Nat.{ℕ, zero, suc, _+_, _-_}
 use lib.Dec.{eqb}
 use lib.IntN.{pos, negsuc}
 use lib.Ieee as Ieee
@@ -13,9 +13,11 @@ use Rattle.zuniq.specs.Codec.{zuniq, encode, hashAt, isZuniqAt, cellUpTo, decod
 use Rattle.zuniq.specs.declared.Encoded.{Encoded}
 use Rattle.zuniq.specs.declared.Decoded.{Decoded}
 use Rattle.merger.specs.Floats.{0·0}
-use Rattle.merger.specs.Merge.{chiOfCounts, mergeCounts, countMerger}
+use Rattle.merger.specs.Merge.{chiOfCounts, mergeCounts, mergedCount, acceptCounts, countMerger}
 use Rattle.merger.specs.declared.CountMerge.{CountMerge}
 use Rattle.merger.specs.declared.CountMerger.{CountMerger}
+use Rattle.build.specs.Map.{Entry, joined, listed, whole, tops, definedMap}
+use Rattle.build.specs.Buffers.{batch}
 
 pub every : List Bool → Bool
 every [] = true
@@ -102,7 +104,40 @@ section2 =
     ∷ keptWith 0·0 (countMerger 0 0·0 1 4 4 4 4)
     ∷ []
 
+-- ---- what a row of section 4 says
+-- a map has exactly these entries: depth, hash and count, one after the other
+isMap : List (Entry ℕ) → List ℕ → Bool
+isMap [] [] = true
+isMap [] (x ∷ rest) = false
+isMap (e ∷ l) [] = false
+isMap (e ∷ l) (d ∷ []) = false
+isMap (e ∷ l) (d ∷ h ∷ []) = false
+isMap (e ∷ l) (d ∷ h ∷ n ∷ rest) = eqb (e .depth) d && (eqb (e .hash) h && (eqb (e .value) n && isMap l rest))
+
+-- the numbers from a on, n of them, and a number n times
+from : ℕ → ℕ → List ℕ
+from zero a = []
+from (suc n) a = a ∷ from n (a + 1)
+
+times : ℕ → ℕ → List ℕ
+times zero a = []
+times (suc n) a = a ∷ times n a
+
+-- ---- section 4
+pub section4 : List Bool
+unfolding isMap from times 3·5 joined listed whole tops definedMap batch acceptCounts mergedCount mergeCounts chiOfCounts Ieee.add Ieee.sub Ieee.mul Ieee.div Ieee.ofInt Ieee.lt
+section4 =
+    -- "D=2, cells 0 to 15 of count 1, T=3.5: (0,0) 16"
+    isMap (definedMap (acceptCounts 0 3·5) 2 (batch 2 (from 16 0) (times 16 1))) (0 ∷ 0 ∷ 16 ∷ [])
+    -- "with M=1 four depth-1 cells of 4"
+    ∷ isMap (definedMap (acceptCounts 1 3·5) 2 (batch 2 (from 16 0) (times 16 1))) (1 ∷ 0 ∷ 4 ∷ 1 ∷ 1 ∷ 4 ∷ 1 ∷ 2 ∷ 4 ∷ 1 ∷ 3 ∷ 4 ∷ [])
+    -- "D=1, cells 1,2,3,4 stay four"
+    ∷ isMap (definedMap (acceptCounts 0 3·5) 1 (batch 1 (from 4 1) (times 4 1))) (1 ∷ 1 ∷ 1 ∷ 1 ∷ 2 ∷ 1 ∷ 1 ∷ 3 ∷ 1 ∷ 1 ∷ 4 ∷ 1 ∷ [])
+    -- "Empty list, empty map"
+    ∷ isMap (definedMap (acceptCounts 0 3·5) 2 []) []
+    ∷ []
+
 -- ---- all of them
-pub starred-cases : every (section1 ++ section2) ≡ true
-unfolding every section1 section2
+pub starred-cases : every (section1 ++ (section2 ++ section4)) ≡ true
+unfolding every section1 section2 section4
 starred-cases = refl
