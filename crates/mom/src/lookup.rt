@@ -30,7 +30,8 @@ pub enum Run {
     Refused(Refusal),
 }
 
-// The same with the entries themselves, that very part of the lent zuniqs; empty where refused.
+// The same with the entries themselves, that very part of the lent zuniqs; empty where refused. A
+// struct that holds a slice is proved by hand, so only `get_overlapped_cells` makes one.
 pub struct Overlapped<'a> {
     pub part: &'a [u64],
     pub run: Run,
@@ -80,6 +81,7 @@ pub fn get_overlapped_run(zuniqs: &[u64], zuniq: u64) -> Run
     let Decoded::Cell(query) = Zuniq64::from_zuniq(zuniq) else {
         return Run::Refused(Refusal::InvalidQuery(0));
     };
+    // The run stands around this place: what it has below the query before it, the others from it on.
     let place = lower_bound(zuniqs, zuniq);
     let first = run_start(zuniqs, query, place);
     let end = run_end(zuniqs, query, place);
