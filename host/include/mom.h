@@ -1,4 +1,5 @@
-/* The C functions of libmom_c.a: cells of multi-order maps, their zuniqs, and the mergers.
+/* The C functions of libmom_c.a: cells of multi-order maps, their zuniqs, the mergers, the map
+ * check and lookup.
  *
  * A cell is a depth d, 0 to 29, and a hash h below N(d) = 12 * 4^d (HEALPix, nested). Its zuniq is
  * (2h + 1) * 4^(29 - d), a u64; no other u64 is a valid zuniq. The four cells that it consists of
@@ -8,19 +9,25 @@
  *
  *     0          accepted; the low 56 bits hold the answer, where the function says one
  *     1 to 64    refused: the code is the refusal's number, the low 56 bits its place, from 0
- *     MOM_NONE   there is no cell
+ *     MOM_NONE   there is no such cell
  *     MOM_KEPT   the four children are kept, not merged
+ *     67 to 70   the map is faulty: the code is the fault, the low 56 bits its place, from 0
+ *
+ * A map of depth D is given by its zuniqs. It is valid where each is a valid zuniq, none is of a
+ * cell deeper than D, they rise strictly and no two of their cells overlap.
  *
  * What doesn't fit into the word goes through a pointer. A function says when it writes such a
- * number: by a refusal, and by MOM_NONE, it is left as it was. No pointer may be null, and no two
- * pointers of one call may overlap. No function keeps a pointer or has a state, so any number of
- * threads may call. A double is the 64-bit one of IEEE 754.
+ * number: by a refusal, and by MOM_NONE, it is left as it was. A slice is its pointer and then its
+ * length. No pointer may be null, not even that of an empty slice, and what one pointer of a call
+ * reaches may not overlap what another does. No function keeps a pointer or has a state, so any
+ * number of threads may call. A double is the 64-bit one of IEEE 754.
  *
  * Link with -lmom_c. The archive is made by `rt staticlib mom_c`.
  */
 #ifndef MOM_H
 #define MOM_H
 
+#include <stddef.h>
 #include <stdint.h>
 
 #ifdef __cplusplus
@@ -31,6 +38,10 @@ extern "C" {
 #define MOM_ACCEPTED 0
 #define MOM_NONE 65
 #define MOM_KEPT 66
+#define MOM_FAULT_NOT_A_ZUNIQ 67
+#define MOM_FAULT_TOO_DEEP 68
+#define MOM_FAULT_NOT_ABOVE 69
+#define MOM_FAULT_OVERLAPPING 70
 
 /* The numbers of the refusals that these functions give. */
 #define MOM_DEPTH_OUT_OF_RANGE 1
@@ -41,10 +52,11 @@ extern "C" {
 #define MOM_COUNT_OVERFLOW 10
 #define MOM_NOT_A_ZUNIQ 12
 
-/* The code of an answer: MOM_ACCEPTED, a refusal's number, MOM_NONE or MOM_KEPT. */
+/* The code of an answer: MOM_ACCEPTED, a refusal's number, MOM_NONE, MOM_KEPT or a fault. */
 static inline uint8_t mom_code(uint64_t word) { return (uint8_t)(word >> 56); }
 
-/* The low 56 bits of an answer: the value of an accepted call or the place of a refusal. */
+/* The low 56 bits of an answer: the value of an accepted call or the place of a refusal or
+ * a fault. */
 static inline uint64_t mom_value(uint64_t word) { return word & UINT64_C(0x00ffffffffffffff); }
 
 /* *n_hash = N(depth), the number of cells at that depth.
@@ -80,6 +92,24 @@ uint64_t mom_chi2_count_merger(uint8_t parent_depth, uint8_t depth_threshold, do
 uint64_t mom_chi2_density_merger(uint8_t parent_depth, uint8_t depth_threshold,
                                  double chi2_threshold, double m0, double m1, double m2, double m3,
                                  double *answer);
+
+/* Whether the len zuniqs are a valid map of that depth: MOM_ACCEPTED, or the first faulty place and
+ * the first fault there of: not a zuniq, too deep, not above its predecessor, overlapping it.
+ * Refuses by 1: the depth is over 29. */
+uint64_t mom_check_is_mom(uint8_t depth, const uint64_t *zuniqs, size_t len);
+
+/* The value is the place of the map's entry over the cell of the zuniq; MOM_NONE where no entry is.
+ * The map isn't checked: where it isn't valid, the answer may be any entry that is a valid zuniq
+ * and overlaps the cell, or MOM_NONE.
+ * Refuses by 1: the depth is over 29; then by 12: zuniq isn't a valid zuniq of that depth. */
+uint64_t mom_get_cell_containing(uint8_t depth, const uint64_t *zuniqs, size_t len, uint64_t zuniq);
+
+/* The entries of the map that overlap the cell of the zuniq, which stand one after the other: the
+ * value is the place of the first and *number = how many they are; both 0 where there are none. The
+ * map isn't checked: where it isn't valid, they may be any that are valid zuniqs and overlap it.
+ * Refuses by 12: zuniq isn't a valid zuniq. */
+uint64_t mom_get_overlapped_cells(const uint64_t *zuniqs, size_t len, uint64_t zuniq,
+                                  size_t *number);
 
 #ifdef __cplusplus
 }

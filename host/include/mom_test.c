@@ -24,6 +24,11 @@ int main(void) {
     uint64_t n_hash = 5, zuniq = 5, hash = 5;
     uint8_t depth = 5;
     double chi2 = 5.5, answer = 5.5;
+    size_t number = 5;
+    /* (1,0), (1,1), (0,1) and the cell (1,0) again. */
+    const uint64_t first = UINT64_C(1) << 56, base = UINT64_C(1) << 58;
+    const uint64_t map[4] = {first, 3 * first, 3 * base, first};
+    const uint64_t faulty[2] = {first, base}, none = 2;
 
     expect(answers(mom_n_hash(30, &n_hash), MOM_DEPTH_OUT_OF_RANGE, 0) && n_hash == 5,
            "n_hash(30)");
@@ -73,6 +78,32 @@ int main(void) {
            answer == 16, "densities of 16 at T = 3.5");
     expect(answers(mom_chi2_density_merger(0, 0, 0, 0, -0.0, 0, 2, &answer), MOM_ACCEPTED, 0) &&
            answer == 0.5, "densities 0, -0, 0, 2 at T = 0");
+
+    expect(answers(mom_check_is_mom(30, map, 4), MOM_DEPTH_OUT_OF_RANGE, 0), "a check at depth 30");
+    expect(answers(mom_check_is_mom(1, map, 0), MOM_ACCEPTED, 0), "a check of no entries");
+    expect(answers(mom_check_is_mom(1, map, 3), MOM_ACCEPTED, 0), "a check of three entries");
+    expect(answers(mom_check_is_mom(1, map, 4), MOM_FAULT_NOT_ABOVE, 3), "a check of four");
+    expect(answers(mom_check_is_mom(0, map, 4), MOM_FAULT_TOO_DEEP, 0), "a check at depth 0");
+    expect(answers(mom_check_is_mom(1, faulty, 2), MOM_FAULT_OVERLAPPING, 1), "an overlap");
+    expect(answers(mom_check_is_mom(1, &none, 1), MOM_FAULT_NOT_A_ZUNIQ, 0), "a check of 2");
+
+    expect(answers(mom_get_cell_containing(30, map, 3, 0), MOM_DEPTH_OUT_OF_RANGE, 0),
+           "containing at depth 30");
+    expect(answers(mom_get_cell_containing(1, map, 3, base), MOM_NOT_A_ZUNIQ, 0),
+           "containing, asked another depth");
+    expect(answers(mom_get_cell_containing(1, map, 3, 11 * first), MOM_ACCEPTED, 2),
+           "the entry over (1, 5)");
+    expect(answers(mom_get_cell_containing(1, map, 3, 5 * first), MOM_NONE, 0),
+           "the entry over (1, 2)");
+
+    expect(answers(mom_get_overlapped_cells(map, 3, 2, &number), MOM_NOT_A_ZUNIQ, 0) &&
+           number == 5, "overlapped, asked 2");
+    expect(answers(mom_get_overlapped_cells(map, 3, base, &number), MOM_ACCEPTED, 0) &&
+           number == 2, "the entries in (0, 0)");
+    expect(answers(mom_get_overlapped_cells(map, 3, 9 * first, &number), MOM_ACCEPTED, 2) &&
+           number == 1, "the entry over (1, 4)");
+    expect(answers(mom_get_overlapped_cells(map, 3, 5 * base, &number), MOM_ACCEPTED, 0) &&
+           number == 0, "the entries in (0, 2)");
 
     printf("%d passed, %d failed\n", passed, failed);
     return failed > 0;
