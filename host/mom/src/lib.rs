@@ -2,8 +2,10 @@
 //!
 //! A cell is a depth, 0 to 29, and a hash below N(depth) = 12 × 4^depth (HEALPix, nested). Its
 //! zuniq is (2 × hash + 1) × 4^(29 − depth). The values of four children of one cell may be merged
-//! into one of their parent. Nothing here panics, whatever the arguments: a call that can't be
-//! answered is refused, with the number and the place of the scope's table.
+//! into one of their parent. A map of a depth is given by its zuniqs: it is valid where each is a
+//! valid zuniq, none is of a deeper cell, they rise strictly and no two of their cells overlap.
+//! Nothing here panics, whatever the arguments: a call that can't be answered is refused, with the
+//! number and the place of the scope's table.
 //!
 //! ```
 //! let zuniq = mom::to_zuniq(1, 3).unwrap();
@@ -48,6 +50,26 @@ pub enum CountMerge {
 pub enum DensityMerge {
     Merged(f64),
     Kept(f64),
+}
+
+/// What is wrong with an entry of a map: the first that holds, in this order.
+#[derive(Clone, Copy, Debug, PartialEq, Eq, Hash)]
+pub enum Fault {
+    /// It is no valid zuniq.
+    NotAZuniq,
+    /// Its cell is deeper than the map.
+    TooDeep,
+    /// It is not above the entry before it.
+    NotAbove,
+    /// Its cell overlaps that of the entry before it.
+    Overlapping,
+}
+
+/// What the map check finds: that the map is valid, or its first faulty place.
+#[derive(Clone, Copy, Debug, PartialEq, Eq, Hash)]
+pub enum MapCheck {
+    Valid,
+    Faulty { place: usize, fault: Fault },
 }
 
 /// The number of cells at a depth. Refused by 1: the depth is over 29.
@@ -130,4 +152,32 @@ pub fn chi2_density_merger(
         Some(_) => DensityMerge::Merged(answer),
         None => DensityMerge::Kept(answer),
     })
+}
+
+/// Whether the zuniqs are a valid map of that depth. Refused by 1: the depth is over 29.
+pub fn check_is_mom(depth: u8, zuniqs: &[u64]) -> Result<MapCheck, Refusal> {
+    raw::checked(raw::check_is_mom(depth, zuniqs))
+}
+
+/// The place of the map's entry over a cell of the map's depth, or that there is none. The map
+/// isn't checked: where it isn't valid, the answer may be any entry that is a valid zuniq and
+/// overlaps the cell, or none. Refused by 1: the depth is over 29; then by 12: the query is no valid
+/// zuniq of that depth.
+pub fn get_cell_containing(
+    depth: u8,
+    zuniqs: &[u64],
+    zuniq: u64,
+) -> Result<Option<usize>, Refusal> {
+    let place = raw::found(raw::get_cell_containing(depth, zuniqs, zuniq))?;
+    Ok(place.map(|place| place as usize))
+}
+
+/// The entries of the map that overlap a cell of any depth: the place of the first, and that very
+/// part of the map; place 0 and an empty part where there are none. The map isn't checked: where it
+/// isn't valid, they may be any that are valid zuniqs and overlap the cell. Refused by 12: the
+/// query is no valid zuniq.
+pub fn get_overlapped_cells(zuniqs: &[u64], zuniq: u64) -> Result<(usize, &[u64]), Refusal> {
+    let mut number = 0;
+    let first = raw::accepted(raw::get_overlapped_cells(zuniqs, zuniq, &mut number))? as usize;
+    Ok((first, &zuniqs[first..first + number]))
 }

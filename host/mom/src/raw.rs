@@ -1,7 +1,7 @@
 //! The functions of libmom_c.a as host/include/mom.h declares them, and the word that each answers.
 //! A new function is declared here and gets its safe form in lib.rs.
 
-use crate::Refusal;
+use crate::{Fault, MapCheck, Refusal};
 
 // SAFETY: the signatures are those of mom.h. The functions are proved to be safe and to end for
 // all arguments, to reach no memory but what is lent to them, and to keep none of it.
@@ -30,19 +30,51 @@ unsafe extern "C" {
         m3: f64,
         answer: &mut f64,
     ) -> u64;
+    fn mom_check_is_mom(depth: u8, zuniqs: *const u64, len: usize) -> u64;
+    fn mom_get_cell_containing(depth: u8, zuniqs: *const u64, len: usize, zuniq: u64) -> u64;
+    fn mom_get_overlapped_cells(
+        zuniqs: *const u64,
+        len: usize,
+        zuniq: u64,
+        number: &mut usize,
+    ) -> u64;
+}
+
+// A slice passes as its pointer and its length.
+
+pub fn check_is_mom(depth: u8, zuniqs: &[u64]) -> u64 {
+    // SAFETY: pointer and length are those of one slice.
+    unsafe { mom_check_is_mom(depth, zuniqs.as_ptr(), zuniqs.len()) }
+}
+
+pub fn get_cell_containing(depth: u8, zuniqs: &[u64], zuniq: u64) -> u64 {
+    // SAFETY: pointer and length are those of one slice.
+    unsafe { mom_get_cell_containing(depth, zuniqs.as_ptr(), zuniqs.len(), zuniq) }
+}
+
+pub fn get_overlapped_cells(zuniqs: &[u64], zuniq: u64, number: &mut usize) -> u64 {
+    // SAFETY: pointer and length are those of one slice.
+    unsafe { mom_get_overlapped_cells(zuniqs.as_ptr(), zuniqs.len(), zuniq, number) }
 }
 
 /// The high byte of a word that says "there is none".
 const NONE: u8 = 65;
 /// The high byte of a word that says "the four children are kept".
 const KEPT: u8 = 66;
+/// The high bytes of words that say what is wrong with a map.
+const NOT_A_ZUNIQ: u8 = 67;
+const TOO_DEEP: u8 = 68;
+const NOT_ABOVE: u8 = 69;
+const OVERLAPPING: u8 = 70;
 
-/// What a word says: an answer, that there is none, that four are kept, or a refusal.
+/// What a word says: an answer, that there is none, that four are kept, that a map is faulty, or a
+/// refusal.
 #[derive(Debug, PartialEq)]
 enum Answer {
     Accepted(u64),
     None,
     Kept,
+    Faulty(u64, Fault),
     Refused(Refusal),
 }
 
@@ -54,6 +86,10 @@ fn unpack(word: u64) -> Answer {
         1..=64 => Answer::Refused(Refusal { number, place }),
         NONE => Answer::None,
         KEPT => Answer::Kept,
+        NOT_A_ZUNIQ => Answer::Faulty(place, Fault::NotAZuniq),
+        TOO_DEEP => Answer::Faulty(place, Fault::TooDeep),
+        NOT_ABOVE => Answer::Faulty(place, Fault::NotAbove),
+        OVERLAPPING => Answer::Faulty(place, Fault::Overlapping),
         _ => unknown(word),
     }
 }
@@ -63,7 +99,7 @@ pub fn accepted(word: u64) -> Result<u64, Refusal> {
     match unpack(word) {
         Answer::Accepted(answer) => Ok(answer),
         Answer::Refused(refusal) => Err(refusal),
-        Answer::None | Answer::Kept => unknown(word),
+        _ => unknown(word),
     }
 }
 
@@ -72,7 +108,7 @@ pub fn answered(word: u64) -> Option<u64> {
     match unpack(word) {
         Answer::Accepted(answer) => Some(answer),
         Answer::None => None,
-        Answer::Kept | Answer::Refused(_) => unknown(word),
+        _ => unknown(word),
     }
 }
 
@@ -82,7 +118,30 @@ pub fn merged(word: u64) -> Result<Option<u64>, Refusal> {
         Answer::Accepted(answer) => Ok(Some(answer)),
         Answer::Kept => Ok(None),
         Answer::Refused(refusal) => Err(refusal),
-        Answer::None => unknown(word),
+        _ => unknown(word),
+    }
+}
+
+/// The answer of a call that may refuse and may have none.
+pub fn found(word: u64) -> Result<Option<u64>, Refusal> {
+    match unpack(word) {
+        Answer::Accepted(answer) => Ok(Some(answer)),
+        Answer::None => Ok(None),
+        Answer::Refused(refusal) => Err(refusal),
+        _ => unknown(word),
+    }
+}
+
+/// What the map check's call answers.
+pub fn checked(word: u64) -> Result<MapCheck, Refusal> {
+    match unpack(word) {
+        Answer::Accepted(0) => Ok(MapCheck::Valid),
+        Answer::Faulty(place, fault) => Ok(MapCheck::Faulty {
+            place: place as usize,
+            fault,
+        }),
+        Answer::Refused(refusal) => Err(refusal),
+        _ => unknown(word),
     }
 }
 
@@ -250,6 +309,22 @@ mod tests {
     }
 
     #[test]
+    fn a_refused_run_writes_no_number_and_an_empty_one_writes_0() {
+        let map = [1, 3];
+        for (zuniq, answer) in [
+            (0, (refused(12, 0), 77)),
+            (1 << 60, (refused(12, 0), 77)),
+            (5, (0, 0)),
+            (3, (1, 1)),
+            (1 << 58, (0, 2)),
+        ] {
+            let mut number = 77;
+            let word = get_overlapped_cells(&map, zuniq, &mut number);
+            assert_eq!((word, number), answer, "{zuniq}");
+        }
+    }
+
+    #[test]
     fn no_part_of_a_word_is_lost() {
         let widest = u64::MAX >> 8;
         assert_eq!(unpack(widest), Answer::Accepted(widest));
@@ -262,6 +337,18 @@ mod tests {
         }
         assert_eq!(unpack(refused(NONE, 0)), Answer::None);
         assert_eq!(unpack(refused(KEPT, 0)), Answer::Kept);
+        for (code, fault) in [
+            (67, Fault::NotAZuniq),
+            (68, Fault::TooDeep),
+            (69, Fault::NotAbove),
+            (70, Fault::Overlapping),
+        ] {
+            assert_eq!(unpack(refused(code, widest)), Answer::Faulty(widest, fault));
+            let place = widest as usize;
+            let faulty = MapCheck::Faulty { place, fault };
+            assert_eq!(checked(refused(code, widest)), Ok(faulty));
+        }
+        assert_eq!(found(refused(NONE, 0)), Ok(None));
         assert_eq!(merged(widest), Ok(Some(widest)));
         assert_eq!(merged(refused(KEPT, 0)), Ok(None));
     }
@@ -269,7 +356,7 @@ mod tests {
     #[test]
     #[should_panic(expected = "mom.h doesn't allow")]
     fn an_unknown_code_is_not_taken_for_an_answer() {
-        unpack(refused(67, 0));
+        unpack(refused(71, 0));
     }
 
     #[test]
