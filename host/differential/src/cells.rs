@@ -52,6 +52,21 @@ impl Cell {
         Cell { depth, hash }
     }
 
+    pub fn children(self) -> [Cell; 4] {
+        [0, 1, 2, 3].map(|child| self.descendant(self.depth + 1, child))
+    }
+
+    /// This cell, or what it lies in at `depth` where it is deeper.
+    pub fn to_depth_at_most(self, depth: u8) -> Cell {
+        self.ancestor(depth.min(self.depth))
+    }
+
+    /// Whether one of the two lies in the other.
+    pub fn overlaps(self, other: Cell) -> bool {
+        let depth = self.depth.min(other.depth);
+        self.ancestor(depth) == other.ancestor(depth)
+    }
+
     /// The next cell, or the one before the last.
     pub fn neighbour(self) -> Cell {
         let last = self.hash + 1 == n_hash(self.depth);

@@ -7,5 +7,6 @@ pub mod cells;
 pub mod compare;
 pub mod floats;
 pub mod kinds;
+pub mod maps;
 pub mod quads;
 pub mod random;

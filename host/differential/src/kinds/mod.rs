@@ -1,20 +1,26 @@
 //! Every kind of comparison, in the order of the scope's sections.
 
 mod are_overlapping;
+mod check_is_mom;
 mod chi;
 mod count_merger;
 mod density_merger;
 mod from_zuniq;
+mod get_cell_containing;
+mod get_overlapped_cells;
 mod n_hash;
 mod to_zuniq;
 
 use crate::compare::{compare, Kind, Plan, Report};
 
 pub use are_overlapping::AreOverlapping;
+pub use check_is_mom::CheckIsMom;
 pub use chi::{CountChi, DensityChi};
 pub use count_merger::CountMerger;
 pub use density_merger::DensityMerger;
 pub use from_zuniq::FromZuniq;
+pub use get_cell_containing::GetCellContaining;
+pub use get_overlapped_cells::GetOverlappedCells;
 pub use n_hash::NHash;
 pub use to_zuniq::ToZuniq;
 
@@ -39,4 +45,7 @@ pub static KINDS: &[Entry] = &[
     entry::<DensityMerger>(),
     entry::<CountChi>(),
     entry::<DensityChi>(),
+    entry::<CheckIsMom>(),
+    entry::<GetCellContaining>(),
+    entry::<GetOverlappedCells>(),
 ];

@@ -1,0 +1,62 @@
+//! The entry over a cell of the map's depth, in valid maps, against both of the original's calls.
+
+use mom::Refusal;
+use oracle::run;
+
+use crate::{
+    cells::{n_hash, Cell, DEPTH_MAX},
+    compare::Kind,
+    maps::{at_depth, Map},
+    random::Random,
+};
+
+pub struct GetCellContaining;
+
+#[derive(Debug, PartialEq, Eq, PartialOrd, Ord)]
+pub struct Input {
+    map: Map,
+    /// At the map's depth.
+    query: Cell,
+}
+
+impl Kind for GetCellContaining {
+    const NAME: &'static str = "get_cell_containing";
+    type Input = Input;
+    /// The zuniq of the entry and its place, or none.
+    type Answer = [Result<Option<(u64, u32)>, Refusal>; 2];
+
+    fn small() -> impl Iterator<Item = Input> {
+        Map::small().flat_map(|map| {
+            let deepest = map.cells().iter().map(|cell| cell.depth).max();
+            let depth = deepest.unwrap_or(0);
+            (depth..=depth.max(1)).flat_map(move |depth| {
+                let map = map.clone();
+                (0..n_hash(depth)).map(move |hash| Input {
+                    map: map.clone(),
+                    query: Cell { depth, hash },
+                })
+            })
+        })
+    }
+
+    fn random(random: &mut Random) -> Option<Input> {
+        let depth = random.below(DEPTH_MAX as u64 + 1) as u8;
+        let map = Map::random(depth, random);
+        let query = at_depth(map.query(random), depth, random);
+        Some(Input { map, query })
+    }
+
+    fn ours(Input { map, query }: &Input) -> Self::Answer {
+        let zuniqs = map.zuniqs();
+        let place = mom::get_cell_containing(query.depth, &zuniqs, query.zuniq());
+        [place.map(|place| place.map(|place| (zuniqs[place], place as u32))); 2]
+    }
+
+    fn original(Input { map, query }: &Input) -> Self::Answer {
+        let (mom, zuniq) = (run::mom(query.depth, map.entries()), query.zuniq());
+        [
+            Ok(run::get_cell_containing(&mom, zuniq).unwrap()),
+            Ok(run::get_copy_of_cell_containing(&mom, zuniq).unwrap()),
+        ]
+    }
+}
