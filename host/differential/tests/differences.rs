@@ -7,7 +7,7 @@ use std::{
     panic::{catch_unwind, AssertUnwindSafe},
 };
 
-use mom::Refusal;
+use mom::{Fault, MapCheck, Refusal};
 use oracle::run;
 
 /// The first number past the last zuniq that doesn't end in 60 or more zeros.
@@ -211,4 +211,100 @@ fn the_density_merger_refuses_what_is_nan_or_infinite() {
             assert_eq!(ours, refused(9, child as u64));
         }
     }
+}
+
+/// The zuniqs of the cells, as the scope defines them.
+fn zuniqs<const N: usize>(cells: [(u8, u64); N]) -> [u64; N] {
+    cells.map(|(depth, hash)| (2 * hash + 1) << (2 * (29 - depth)))
+}
+
+/// The original's map with each entry's place as its value, and what it answers of it.
+fn original_overlapped(map: &[u64], zuniq: u64) -> Vec<(u64, u32)> {
+    let entries = map.iter().copied().zip(0..).collect();
+    run::get_overlapped_cells(&run::mom(29, entries), zuniq)
+}
+
+/// The original takes 1 from the search place, and the wrapped place lies outside its entries.
+#[test]
+fn get_overlapped_cells_answers_where_no_entry_stands_before_the_query() {
+    let [cell] = zuniqs([(0, 0)]);
+    assert!(panics(|| original_overlapped(&[], cell)));
+    assert_eq!(mom::get_overlapped_cells(&[], cell), Ok((0, &[][..])));
+    assert!(panics(|| original_overlapped(&[cell], cell)));
+    assert_eq!(
+        mom::get_overlapped_cells(&[cell], cell),
+        Ok((0, &[cell][..]))
+    );
+}
+
+#[test]
+fn get_overlapped_cells_finds_entry_0_over_the_query() {
+    let map = zuniqs([(0, 11)]);
+    let [query] = zuniqs([(1, 47)]);
+    assert_eq!(original_overlapped(&map, query), []);
+    assert_eq!(mom::get_overlapped_cells(&map, query), Ok((0, &map[..])));
+}
+
+#[test]
+fn get_overlapped_cells_finds_entry_0_in_the_query() {
+    let map = zuniqs([(2, 0), (2, 1)]);
+    let [query] = zuniqs([(0, 0)]);
+    assert_eq!(original_overlapped(&map, query), [(map[1], 1)]);
+    assert_eq!(mom::get_overlapped_cells(&map, query), Ok((0, &map[..])));
+}
+
+/// The original reads 6 as (29, 1).
+#[test]
+fn get_overlapped_cells_refuses_what_is_no_zuniq() {
+    let map = zuniqs([(29, 0), (29, 1)]);
+    assert_eq!(original_overlapped(&map, 6), [(map[1], 1)]);
+    assert_eq!(mom::get_overlapped_cells(&map, 6), refused(12, 0));
+}
+
+fn original_check(depth: u8, map: &[u64]) -> Result<(), String> {
+    let entries = map.iter().map(|&zuniq| (zuniq, 0u32)).collect();
+    run::check_is_mom(&run::mom(depth, entries))
+}
+
+/// The original's test of the depths is reversed.
+#[test]
+fn check_is_mom_takes_entries_above_the_map_s_depth() {
+    let map = zuniqs([(1, 2), (1, 4)]);
+    let error = original_check(2, &map).unwrap_err();
+    assert!(error.starts_with("Element has a larger depth"), "{error}");
+    assert_eq!(mom::check_is_mom(2, &map), Ok(MapCheck::Valid));
+    // One entry is both the first and the last, whose depth the original never tests.
+    assert_eq!(original_check(2, &map[..1]), Ok(()));
+    assert_eq!(mom::check_is_mom(2, &map[..1]), Ok(MapCheck::Valid));
+}
+
+#[test]
+fn check_is_mom_finds_what_is_too_deep() {
+    for map in [&zuniqs([(1, 0)])[..], &zuniqs([(1, 0), (1, 1)])] {
+        assert_eq!(original_check(0, map), Ok(()));
+        let too_deep = MapCheck::Faulty {
+            place: 0,
+            fault: Fault::TooDeep,
+        };
+        assert_eq!(mom::check_is_mom(0, map), Ok(too_deep));
+    }
+}
+
+#[test]
+fn check_is_mom_finds_what_is_no_zuniq() {
+    let at_0 = Ok(MapCheck::Faulty {
+        place: 0,
+        fault: Fault::NotAZuniq,
+    });
+    assert_overflows(|| original_check(0, &[0]), Ok(()));
+    assert_eq!(mom::check_is_mom(0, &[0]), at_0);
+    assert_eq!(original_check(29, &[2]), Ok(()));
+    assert_eq!(mom::check_is_mom(29, &[2]), at_0);
+}
+
+/// The original tries no depth: it takes one that no entry can be at, or has every entry above it.
+#[test]
+fn check_is_mom_refuses_a_depth_over_29() {
+    assert_eq!(original_check(30, &[]), Ok(()));
+    assert_eq!(mom::check_is_mom(30, &[]), refused(1, 0));
 }

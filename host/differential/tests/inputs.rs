@@ -5,6 +5,7 @@ use std::collections::HashSet;
 use differential::{
     cells::{cells_to, n_hash, Cell, DEPTH_MAX},
     floats::Float,
+    maps::Map,
     quads::{unit_density, Call, Quad, PARENT_DEPTH_MAX},
     random::Random,
 };
@@ -209,4 +210,65 @@ fn no_small_quad_is_left_out() {
     assert_eq!(quads.len(), 8 * 8 * 8 * 8);
     assert!(quads.contains(&[7, 0, 3, 5]));
     assert_eq!(Quad::<Float>::small(0).count(), 10_000);
+}
+
+/// Random maps of every depth, each with a query.
+fn drawn_maps() -> impl Iterator<Item = (u8, Map, Cell)> {
+    let mut random = Random::new(8);
+    (0..DRAWN / 4).map(move |_| {
+        let depth = random.below(30) as u8;
+        let map = Map::random(depth, &mut random);
+        let query = map.query(&mut random);
+        (depth, map, query)
+    })
+}
+
+#[test]
+fn no_map_is_invalid() {
+    let drawn = drawn_maps().map(|(depth, map, _)| (depth, map));
+    for (depth, map) in drawn.chain(Map::small().map(|map| (2, map))) {
+        let cells = map.cells();
+        assert!(cells.iter().all(|cell| cell.depth <= depth), "{map:?}");
+        let rises = |pair: &[Cell]| pair[0].zuniq() < pair[1].zuniq();
+        assert!(cells.windows(2).all(rises), "{map:?}");
+        let apart = |i: usize| cells[..i].iter().all(|&cell| !cell.overlaps(cells[i]));
+        assert!((0..cells.len()).all(apart), "{map:?}");
+    }
+}
+
+#[test]
+fn no_map_and_no_query_is_rare() {
+    fn found((_, map, query): &(u8, Map, Cell)) -> Vec<usize> {
+        let places = 0..map.cells().len();
+        places
+            .filter(|&place| map.cells()[place].overlaps(*query))
+            .collect()
+    }
+    fn depths(map: &Map) -> HashSet<u8> {
+        map.cells().iter().map(|cell| cell.depth).collect()
+    }
+    assert_none_is_rare(
+        drawn_maps(),
+        &[
+            ("empty", |(_, map, _)| map.cells().is_empty()),
+            ("one entry", |(_, map, _)| map.cells().len() == 1),
+            ("over 30 entries", |(_, map, _)| map.cells().len() > 30),
+            ("four depths", |(_, map, _)| depths(map).len() >= 4),
+            ("depth 29", |(_, map, _)| depths(map).contains(&29)),
+            ("none found", |drawn| found(drawn).is_empty()),
+            ("entry 0 found", |drawn| found(drawn).contains(&0)),
+            ("the last found", |drawn| {
+                let last = drawn.1.cells().len().wrapping_sub(1);
+                last > 0 && found(drawn) == [last]
+            }),
+            ("one in the middle found", |drawn| {
+                let found = found(drawn);
+                found.len() == 1 && found[0] > 0 && found[0] + 1 < drawn.1.cells().len()
+            }),
+            ("a run in the middle found", |drawn| {
+                let found = found(drawn);
+                found.len() > 2 && found[0] > 0 && found[0] + found.len() < drawn.1.cells().len()
+            }),
+        ],
+    );
 }
