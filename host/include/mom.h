@@ -1,5 +1,5 @@
 /* The C functions of libmom_c.a: cells of multi-order maps, their zuniqs, the mergers, the map
- * check and lookup.
+ * check, lookup and building from counts.
  *
  * A cell is a depth d, 0 to 29, and a hash h below N(d) = 12 * 4^d (HEALPix, nested). Its zuniq is
  * (2h + 1) * 4^(29 - d), a u64; no other u64 is a valid zuniq. The four cells that it consists of
@@ -47,9 +47,13 @@ extern "C" {
 #define MOM_DEPTH_OUT_OF_RANGE 1
 #define MOM_DEPTH_THRESHOLD_OUT_OF_RANGE 2
 #define MOM_CHI2_THRESHOLD_IS_NAN 3
+#define MOM_LENGTHS_DIFFER 4
+#define MOM_INVALID_MAP 5
 #define MOM_HASH_OUT_OF_RANGE 7
+#define MOM_CELL_NOT_ABOVE 8
 #define MOM_INVALID_DENSITY 9
 #define MOM_COUNT_OVERFLOW 10
+#define MOM_NO_SPACE 11
 #define MOM_NOT_A_ZUNIQ 12
 
 /* The code of an answer: MOM_ACCEPTED, a refusal's number, MOM_NONE, MOM_KEPT or a fault. */
@@ -110,6 +114,24 @@ uint64_t mom_get_cell_containing(uint8_t depth, const uint64_t *zuniqs, size_t l
  * Refuses by 12: zuniq isn't a valid zuniq. */
 uint64_t mom_get_overlapped_cells(const uint64_t *zuniqs, size_t len, uint64_t zuniq,
                                   size_t *number);
+
+/* Adds cells of that depth, given by hashes and their counts in batch, to the map in the first held
+ * places of zuniqs and counts. Each cell is appended; while the last four entries are the children
+ * of one parent and the count merger accepts them under depth_threshold and chi2_threshold, they
+ * are replaced by the parent. The value is the new number of entries and *total = the sum of their
+ * counts; every place after the entries is 0. By a refusal both buffers and *total are left as they
+ * were.
+ * Refuses by 1: the depth is 0 or over 29; then by 2: depth_threshold is over 29; then by 3:
+ * chi2_threshold is a NaN; then by 4: zl isn't cl, hl isn't bl, or held is over zl; then by 5: the
+ * held entries are no valid map of that depth, the place is the faulty entry; then, cell by cell,
+ * by 7: its hash is N(depth) or more, and by 8: it isn't above the one before it, or the first
+ * starts before the last held entry ends, the place is the cell; then by 10: held counts and batch
+ * together are over 2^32 - 1, the place is the cell that passes it, 0 where the held ones alone do;
+ * then by 11: held + hl is over zl. */
+uint64_t mom_add_counts(uint8_t depth, uint8_t depth_threshold, double chi2_threshold, size_t held,
+                        uint64_t *zuniqs, size_t zl, uint32_t *counts, size_t cl,
+                        const uint64_t *hashes, size_t hl, const uint32_t *batch, size_t bl,
+                        uint32_t *total);
 
 #ifdef __cplusplus
 }

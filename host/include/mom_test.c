@@ -28,6 +28,10 @@ int main(void) {
     /* (1,0), (1,1), (0,1) and the cell (1,0) again. */
     const uint64_t first = UINT64_C(1) << 56, base = UINT64_C(1) << 58;
     const uint64_t map[4] = {first, 3 * first, 3 * base, first};
+    const uint64_t hashes[4] = {0, 1, 2, 3};
+    const uint32_t batch[4] = {1, 2, 4, 4};
+    uint64_t zuniqs[5] = {5, 5, 5, 5, 5};
+    uint32_t counts[5] = {5, 5, 5, 5, 5}, total = 5;
     const uint64_t faulty[2] = {first, base}, none = 2;
 
     expect(answers(mom_n_hash(30, &n_hash), MOM_DEPTH_OUT_OF_RANGE, 0) && n_hash == 5,
@@ -104,6 +108,26 @@ int main(void) {
            number == 1, "the entry over (1, 4)");
     expect(answers(mom_get_overlapped_cells(map, 3, 5 * base, &number), MOM_ACCEPTED, 0) &&
            number == 0, "the entries in (0, 2)");
+
+    expect(answers(mom_add_counts(0, 0, 3.5, 0, zuniqs, 5, counts, 5, hashes, 4, batch, 4, &total),
+                   MOM_DEPTH_OUT_OF_RANGE, 0) && total == 5, "adding at depth 0");
+    expect(answers(mom_add_counts(1, 0, 3.5, 0, zuniqs, 5, counts, 4, hashes, 4, batch, 4, &total),
+                   MOM_LENGTHS_DIFFER, 0) && total == 5, "adding to two lengths");
+    expect(answers(mom_add_counts(1, 0, 3.5, 0, zuniqs, 3, counts, 3, hashes, 4, batch, 4, &total),
+                   MOM_NO_SPACE, 0) && total == 5 && zuniqs[0] == 5 && counts[0] == 5,
+           "adding to too few places");
+    expect(answers(mom_add_counts(1, 0, 3.5, 0, zuniqs, 5, counts, 5, hashes, 3, batch, 3, &total),
+                   MOM_ACCEPTED, 3) && total == 7 && zuniqs[2] == 5 * first && counts[2] == 4 &&
+           zuniqs[3] == 0 && counts[4] == 0, "adding three");
+    expect(answers(mom_add_counts(1, 0, 3.5, 4, zuniqs, 5, counts, 5, hashes, 0, batch, 0, &total),
+                   MOM_INVALID_MAP, 3) && total == 7, "adding to more than are held");
+    expect(answers(mom_add_counts(1, 0, 3.5, 3, zuniqs, 5, counts, 5, hashes + 2, 2, batch + 2, 2,
+                                  &total),
+                   MOM_CELL_NOT_ABOVE, 0) && total == 7, "adding one again");
+    expect(answers(mom_add_counts(1, 0, 3.5, 3, zuniqs, 4, counts, 4, hashes + 3, 1, batch + 3, 1,
+                                  &total),
+                   MOM_ACCEPTED, 1) && total == 11 && zuniqs[0] == base && counts[0] == 11 &&
+           zuniqs[1] == 0 && counts[3] == 0, "adding the fourth");
 
     printf("%d passed, %d failed\n", passed, failed);
     return failed > 0;
