@@ -72,6 +72,13 @@ pub enum MapCheck {
     Faulty { place: usize, fault: Fault },
 }
 
+/// What an accepted add call leaves: the number of entries, and the sum of their counts.
+#[derive(Clone, Copy, Debug, PartialEq, Eq, Hash)]
+pub struct Added {
+    pub entries: usize,
+    pub total: u32,
+}
+
 /// The number of cells at a depth. Refused by 1: the depth is over 29.
 pub fn n_hash(depth: u8) -> Result<u64, Refusal> {
     let mut n_hash = 0;
@@ -180,4 +187,43 @@ pub fn get_overlapped_cells(zuniqs: &[u64], zuniq: u64) -> Result<(usize, &[u64]
     let mut number = 0;
     let first = raw::accepted(raw::get_overlapped_cells(zuniqs, zuniq, &mut number))? as usize;
     Ok((first, &zuniqs[first..first + number]))
+}
+
+/// Adds cells of that depth, given by `hashes` and their counts in `batch`, to the map in the first
+/// `held` places of `zuniqs` and `counts`. Each cell is appended; while the last four entries are
+/// the children of one parent and the count merger accepts them, they are replaced by the parent.
+/// Every place after the entries is 0. A refused call leaves both buffers as they were.
+///
+/// Refused by 1: the depth is 0 or over 29; then by 2: the depth threshold is over 29; then by 3:
+/// the chi-square threshold is a NaN; then by 4: the buffers or the batch's two parts differ in
+/// length, or `held` is more than the buffers have; then by 5: the held entries are no valid map of
+/// that depth, the place is the faulty entry; then, cell by cell, by 7: its hash is N(depth) or
+/// more, and by 8: it isn't above the one before it, or the first starts before the last held entry
+/// ends; then by 10: all counts together are no u32, the place is the cell that passes it, 0 where
+/// the held ones alone do; then by 11: the buffers have fewer places than held and batch together.
+#[allow(clippy::too_many_arguments)]
+pub fn add_counts(
+    depth: u8,
+    depth_threshold: u8,
+    chi2_threshold: f64,
+    held: usize,
+    zuniqs: &mut [u64],
+    counts: &mut [u32],
+    hashes: &[u64],
+    batch: &[u32],
+) -> Result<Added, Refusal> {
+    let mut total = 0;
+    let entries = raw::accepted(raw::add_counts(
+        depth,
+        depth_threshold,
+        chi2_threshold,
+        held,
+        zuniqs,
+        counts,
+        hashes,
+        batch,
+        &mut total,
+    ))?;
+    let entries = entries as usize;
+    Ok(Added { entries, total })
 }

@@ -38,6 +38,21 @@ unsafe extern "C" {
         zuniq: u64,
         number: &mut usize,
     ) -> u64;
+    fn mom_add_counts(
+        depth: u8,
+        depth_threshold: u8,
+        chi2_threshold: f64,
+        held: usize,
+        zuniqs: *mut u64,
+        zl: usize,
+        counts: *mut u32,
+        cl: usize,
+        hashes: *const u64,
+        hl: usize,
+        batch: *const u32,
+        bl: usize,
+        total: &mut u32,
+    ) -> u64;
 }
 
 // A slice passes as its pointer and its length.
@@ -55,6 +70,39 @@ pub fn get_cell_containing(depth: u8, zuniqs: &[u64], zuniq: u64) -> u64 {
 pub fn get_overlapped_cells(zuniqs: &[u64], zuniq: u64, number: &mut usize) -> u64 {
     // SAFETY: pointer and length are those of one slice.
     unsafe { mom_get_overlapped_cells(zuniqs.as_ptr(), zuniqs.len(), zuniq, number) }
+}
+
+#[allow(clippy::too_many_arguments)]
+pub fn add_counts(
+    depth: u8,
+    depth_threshold: u8,
+    chi2_threshold: f64,
+    held: usize,
+    zuniqs: &mut [u64],
+    counts: &mut [u32],
+    hashes: &[u64],
+    batch: &[u32],
+    total: &mut u32,
+) -> u64 {
+    // SAFETY: each pointer and the length after it are those of one slice, and no two of the slices
+    // overlap, two of them being lent alone.
+    unsafe {
+        mom_add_counts(
+            depth,
+            depth_threshold,
+            chi2_threshold,
+            held,
+            zuniqs.as_mut_ptr(),
+            zuniqs.len(),
+            counts.as_mut_ptr(),
+            counts.len(),
+            hashes.as_ptr(),
+            hashes.len(),
+            batch.as_ptr(),
+            batch.len(),
+            total,
+        )
+    }
 }
 
 /// The high byte of a word that says "there is none".
@@ -321,6 +369,33 @@ mod tests {
             let mut number = 77;
             let word = get_overlapped_cells(&map, zuniq, &mut number);
             assert_eq!((word, number), answer, "{zuniq}");
+        }
+    }
+
+    #[test]
+    fn a_refused_add_call_writes_nothing() {
+        let (mut zuniqs, mut counts, mut total) = ([1, 3, 7, 9], [1, u32::MAX - 9, 7, 9], 77);
+        let (before, nan) = ((zuniqs, counts), f64::NAN);
+        let (deep, hash) = (29, 4u64);
+        for (depth, m, t, held, hashes, batch, number, place) in [
+            (0, 30, nan, 5, &[hash][..], &[1][..], 1, 0),
+            (30, 30, nan, 5, &[hash], &[1], 1, 0),
+            (deep, 30, nan, 5, &[hash], &[1], 2, 0),
+            (deep, 29, nan, 5, &[hash], &[1], 3, 0),
+            (deep, 29, 1.0, 5, &[hash], &[1], 4, 0),
+            (deep, 29, 1.0, 2, &[hash], &[], 4, 0),
+            (28, 0, 1.0, 2, &[0], &[1], 5, 0),
+            (deep, 0, 1.0, 2, &[hash, 12 << 58], &[1, 1], 7, 1),
+            (deep, 0, 1.0, 2, &[1, 12 << 58], &[1, 1], 8, 0),
+            (deep, 0, 1.0, 2, &[hash, hash], &[1, 1], 8, 1),
+            (deep, 0, 1.0, 2, &[2, 3, hash], &[8, 1, 1], 10, 1),
+            (deep, 0, 1.0, 4, &[hash + 9], &[0], 10, 0),
+            (deep, 0, 1.0, 2, &[2, 3, hash], &[8, 0, 0], 11, 0),
+        ] {
+            let (z, c) = (&mut zuniqs, &mut counts);
+            let word = add_counts(depth, m, t, held, z, c, hashes, batch, &mut total);
+            assert_eq!(word, refused(number, place), "{hashes:?} {batch:?}");
+            assert_eq!(((zuniqs, counts), total), (before, 77));
         }
     }
 
