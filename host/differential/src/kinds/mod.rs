@@ -1,5 +1,6 @@
 //! Every kind of comparison, in the order of the scope's sections.
 
+mod add_counts;
 mod are_overlapping;
 mod check_is_mom;
 mod chi;
@@ -13,6 +14,7 @@ mod to_zuniq;
 
 use crate::compare::{compare, Kind, Plan, Report};
 
+pub use add_counts::AddCounts;
 pub use are_overlapping::AreOverlapping;
 pub use check_is_mom::CheckIsMom;
 pub use chi::{CountChi, DensityChi};
@@ -46,6 +48,7 @@ pub static KINDS: &[Entry] = &[
     entry::<CountChi>(),
     entry::<DensityChi>(),
     entry::<CheckIsMom>(),
+    entry::<AddCounts>(),
     entry::<GetCellContaining>(),
     entry::<GetOverlappedCells>(),
 ];
