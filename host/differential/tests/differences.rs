@@ -7,7 +7,7 @@ use std::{
     panic::{catch_unwind, AssertUnwindSafe},
 };
 
-use mom::{Fault, MapCheck, Refusal};
+use mom::{Added, Fault, MapCheck, Refusal};
 use oracle::run;
 
 /// The first number past the last zuniq that doesn't end in 60 or more zeros.
@@ -302,9 +302,81 @@ fn check_is_mom_finds_what_is_no_zuniq() {
     assert_eq!(mom::check_is_mom(29, &[2]), at_0);
 }
 
-/// The original tries no depth: it takes one that no entry can be at, or has every entry above it.
+/// The original never looks at the map's depth itself.
 #[test]
 fn check_is_mom_refuses_a_depth_over_29() {
     assert_eq!(original_check(30, &[]), Ok(()));
     assert_eq!(mom::check_is_mom(30, &[]), refused(1, 0));
+}
+
+/// What ours makes of one batch, with places enough, and what then stands in the first of them.
+fn added(
+    (depth, m, t): (u8, u8, f64),
+    cells: &[(u64, u32)],
+) -> (Result<Added, Refusal>, (u64, u32)) {
+    let (hashes, batch): (Vec<u64>, Vec<u32>) = cells.iter().copied().unzip();
+    let (mut zuniqs, mut counts) = ([77; 8], [77; 8]);
+    let answer = mom::add_counts(depth, m, t, 0, &mut zuniqs, &mut counts, &hashes, &batch);
+    (answer, (zuniqs[0], counts[0]))
+}
+
+fn original_built((depth, m, t): (u8, u8, f64), cells: &[(u64, u32)]) -> Vec<(u64, u32)> {
+    run::build_counts(depth, m, t, cells.iter().copied())
+}
+
+fn assert_refused(setting: (u8, u8, f64), cells: &[(u64, u32)], number: u8, place: u64) {
+    let (answer, first) = added(setting, cells);
+    assert_eq!(answer, refused(number, place));
+    assert_eq!(first, (77, 77));
+}
+
+/// The original looks for parents at the depth before 0. Where that wraps, four cells are merged
+/// into one whose parent depth 255 is above every M.
+#[test]
+fn add_counts_refuses_depth_0() {
+    assert_overflows(|| original_built((0, 0, 3.0), &[]), vec![]);
+    assert_refused((0, 0, 3.0), &[], 1, 0);
+    let cells = [(0, 2), (1, 2), (2, 2), (3, 2)];
+    let setting = (0, 4, 3.0);
+    assert_overflows(|| original_built(setting, &cells), vec![(1 << 60, 8)]);
+    assert_refused(setting, &cells, 1, 0);
+}
+
+/// The original appends what comes.
+#[test]
+fn add_counts_refuses_a_cell_that_is_not_above_the_one_before() {
+    for (cells, place) in [([(0, 1), (0, 1)], 1), ([(1, 1), (0, 1)], 1)] {
+        let appended = cells.map(|(hash, count)| (run::to_zuniq(1, hash), count));
+        assert_eq!(original_built((1, 0, 3.5), &cells), appended);
+        assert_refused((1, 0, 3.5), &cells, 8, place);
+    }
+}
+
+#[test]
+fn add_counts_refuses_a_hash_out_of_range() {
+    let appended = [(run::to_zuniq(1, 48), 1)];
+    assert_eq!(original_built((1, 0, 3.5), &[(48, 1)]), appended);
+    assert_refused((1, 0, 3.5), &[(48, 1)], 7, 0);
+}
+
+/// The original adds up only what it merges.
+#[test]
+fn add_counts_refuses_counts_that_overflow_together() {
+    let cells = [(0, u32::MAX), (1, 1), (2, 0), (3, 0)];
+    let merged = vec![(run::to_zuniq(0, 0), 0)];
+    assert_overflows(|| original_built((1, 0, f64::INFINITY), &cells), merged);
+    assert_refused((1, 0, f64::INFINITY), &cells, 10, 1);
+    let appended = cells.map(|(hash, count)| (run::to_zuniq(1, hash), count));
+    assert_eq!(original_built((1, 0, 0.0), &cells), appended);
+    assert_refused((1, 0, 0.0), &cells, 10, 1);
+}
+
+/// The original keeps all, as with the mergers alone.
+#[test]
+fn add_counts_refuses_a_depth_threshold_over_29_and_a_threshold_that_is_nan() {
+    let cells = [(0, 1), (1, 1), (2, 1), (3, 1)];
+    for (setting, number) in [((1, 30, 3.5), 2), ((1, 0, f64::NAN), 3)] {
+        assert_eq!(original_built(setting, &cells).len(), 4);
+        assert_refused(setting, &cells, number, 0);
+    }
 }

@@ -4,7 +4,9 @@ use std::collections::HashSet;
 
 use differential::{
     cells::{cells_to, n_hash, Cell, DEPTH_MAX},
+    compare::Kind,
     floats::Float,
+    kinds::AddCounts,
     maps::Map,
     quads::{unit_density, Call, Quad, PARENT_DEPTH_MAX},
     random::Random,
@@ -269,6 +271,67 @@ fn no_map_and_no_query_is_rare() {
                 let found = found(drawn);
                 found.len() > 2 && found[0] > 0 && found[0] + found.len() < drawn.1.cells().len()
             }),
+        ],
+    );
+}
+
+/// The steps of add calls, by what the table and the original's building make of them.
+#[test]
+fn no_refusal_and_no_kind_of_building_is_rare() {
+    let mut random = Random::new(9);
+    let steps = (0..DRAWN / 20).flat_map(|_| {
+        let input = AddCounts::random(&mut random).unwrap();
+        let depth = input.depth;
+        let steps = AddCounts::original(&input);
+        steps.into_iter().map(move |(answer, zuniqs, _)| {
+            let entries = answer.map_or(0, |added| added.entries);
+            let cells = zuniqs[..entries].iter().filter_map(|&z| Cell::of_zuniq(z));
+            let cells: Vec<Cell> = cells.collect();
+            (depth, answer, cells, zuniqs.len())
+        })
+    });
+    type Step = (u8, Result<mom::Added, mom::Refusal>, Vec<Cell>, usize);
+    fn number(step: &Step) -> u8 {
+        step.1.map_or_else(|refusal| refusal.number, |_| 0)
+    }
+    fn is_at(step: &Step, of: u8) -> bool {
+        step.1
+            .is_err_and(|refusal| refusal.number == of && refusal.place > 0)
+    }
+    fn merges(step: &Step) -> u8 {
+        let least = step.2.iter().map(|cell| cell.depth).min();
+        step.0 - least.unwrap_or(step.0)
+    }
+    fn ends_at(step: &Step, last: bool) -> bool {
+        let cell = if last { step.2.last() } else { step.2.first() };
+        cell.is_some_and(|cell| cell.hash == if last { n_hash(cell.depth) - 1 } else { 0 })
+    }
+    assert_none_is_rare(
+        steps,
+        &[
+            ("accepted", |step| number(step) == 0),
+            ("no entries", |step| number(step) == 0 && step.2.is_empty()),
+            ("over 50 entries", |step| step.2.len() > 50),
+            ("one merge deep", |step| merges(step) == 1),
+            ("three merges deep", |step| merges(step) == 3),
+            ("the first cell", |step| ends_at(step, false)),
+            ("the last cell", |step| ends_at(step, true)),
+            ("all places held", |step| {
+                step.2.len() == step.3 && !step.2.is_empty()
+            }),
+            ("1", |step| number(step) == 1),
+            ("2", |step| number(step) == 2),
+            ("3", |step| number(step) == 3),
+            ("4", |step| number(step) == 4),
+            ("5", |step| number(step) == 5),
+            ("5 past place 0", |step| is_at(step, 5)),
+            ("7", |step| number(step) == 7),
+            ("7 past place 0", |step| is_at(step, 7)),
+            ("8", |step| number(step) == 8),
+            ("8 past place 0", |step| is_at(step, 8)),
+            ("10", |step| number(step) == 10),
+            ("10 past place 0", |step| is_at(step, 10)),
+            ("11", |step| number(step) == 11),
         ],
     );
 }

@@ -17,7 +17,7 @@ pub struct AddCounts;
 #[derive(Debug, PartialEq, Eq, PartialOrd, Ord)]
 pub struct Input {
     calls: Vec<Call>,
-    depth: u8,
+    pub depth: u8,
     /// M
     depth_threshold: u8,
     /// T
