@@ -1,64 +1,69 @@
--- What a count add call that is not refused may rely on, and what it leaves in the buffers. Assumes nothing.
+-- What an add call that is not refused may rely on, and what it leaves in the buffers: of any values, and of counts. `bad` tells
+-- the values that no cell may have. Assumes nothing.
 use mathlib.Core.Path.{_≡_, refl, ap, ap₂, sym, _∙_}
+use mathlib.Core.Bool.{Bool}
 use mathlib.Core.List.{List, [], _∷_, _++_, append-nil}
-use mathlib.Core.Option.{Option, none}
+use mathlib.Core.Option.{none}
 use Prim.Native.Nat.{ℕ, zero, suc, _+_, _≤_, _<_, _-_}
 use native.Mathlib.Omega.{arith}
 use lib.Ieee.{Float}
 use lib.ListN.{length, getD, take, drop, replicate, length-drop, drop-of-length-le}
 use lib.Seq.{getD-take, length-take-le, take-suc}
 use borrow.Rule.Slice.PartMut.{midOf, putMid, mid-len}
-use Rattle.zuniq.specs.Cells.{nHash}
-use Rattle.zuniq.specs.Codec.{IsZuniqOf}
-use Rattle.mom.specs.Map.{ValidMap}
-use Rattle.build.specs.Map.{Entry}
-use Rattle.build.specs.Promises.{total}
-use Rattle.build.specs.Buffers.{batch, readOnto, held, laid, filled, zuniqOf, valueOf}
+use Rattle.zuniq.specs.declared.refusal.Refusal.{Refusal}
 use Rattle.merger.specs.Merge.{acceptCounts}
 use Rattle.merger.proofs.Accept.{accepted-count-is-sum}
+use Rattle.mom.specs.Map.{firstFault, ValidMap}
 use Rattle.build.specs.declared.counts.CountsAdded.{CountsAdded}
 use Rattle.build.specs.Stack.{run}
-use Rattle.build.specs.Calls.{addCall}
+use Rattle.build.specs.Buffers.{batch, readOnto, held, filled, zuniqOf, valueOf, zuniqBuffer, valueBuffer}
+use Rattle.build.specs.Calls.{Buffers, Batch, Answer, Calls, cells, addCall}
 use Rattle.build.specs.Standing.{Stands, Added}
+use Rattle.build.specs.Add.{settingsRefusal, lengthsRefusal, mapRefusal, mapEnd, cellsRefusal, sumOf, spaceRefusal}
+use Rattle.build.specs.Counts.{totalOf, never, countsRefusal, Report, countCalls, countsAdded, addCounts}
 use Rattle.build.proofs.Adding.{run-total}
-use Rattle.build.specs.Add.{mapEnd, hashesRefusal, sumOf}
-use Rattle.build.specs.Counts.{totalOf, countsRefusal, addCounts}
 use Rattle.build.proofs.Places.{fewer, held-suc, held-length, held-zuniqs, held-values}
 use Rattle.build.proofs.Filling.{sum-append}
-use Rattle.build.proofs.Checking.{or-else-none, settings-pass, lengths-pass, map-passes, space-passes, cells-by-hashes, total-fits}
+use Rattle.build.proofs.Checking.{or-else-none, settings-pass, lengths-pass, map-passes, space-passes, total-fits}
 
-pub record Accepted (D m places values : ℕ) (zs vs hs ns : List ℕ) : Type 0 where
+pub record Accepted {A : Type 0} (bad : A → Bool) (D m places values : ℕ) (zs hs : List ℕ) (xs : List A) : Type 0 where
   pub positive : 0 < D
   pub shallow : D ≤ 29
   pub paired : places ≡ values
   pub within : m ≤ places
-  pub batched : length hs ≡ length ns
+  pub batched : length hs ≡ length xs
   pub valid : ValidMap 29 D zs
-  pub cells : hashesRefusal D (mapEnd 29 D zs) 0 hs ≡ none
-  pub fits : sumOf vs + sumOf ns ≤ 4294967295
+  pub cells : cellsRefusal bad D (mapEnd 29 D zs) 0 hs xs ≡ none
   pub room : m + length hs ≤ places
 
-pub accepted : (D M : ℕ) (T : Float) (m places values : ℕ) (zs vs hs ns : List ℕ) → countsRefusal D M T m places values zs vs hs ns ≡ none → Accepted D m places values zs vs hs ns
-unfolding countsRefusal
-accepted D M T m places values zs vs hs ns e =
-    let a = or-else-none _ _ e in
-    let b = or-else-none _ _ (a .1) in
-    let c = or-else-none _ _ (b .1) in
-    let d = or-else-none _ _ (c .1) in
-    let f = or-else-none _ _ (d .1) in
-    let s = settings-pass D M T (a .0) in
-    let l = lengths-pass m places values (length hs) (length ns) (b .0) in
+-- The rows that all add calls have in common.
+pub accepted : {A : Type 0} (bad : A → Bool) (D M : ℕ) (T : Float) (m places values : ℕ) (zs hs : List ℕ) (xs : List A)
+    → settingsRefusal D M T ≡ none → lengthsRefusal m places values (length hs) (length xs) ≡ none → mapRefusal (firstFault 29 D zs) ≡ none
+    → cellsRefusal bad D (mapEnd 29 D zs) 0 hs xs ≡ none → spaceRefusal places m (length hs) ≡ none → Accepted bad D m places values zs hs xs
+accepted bad D M T m places values zs hs xs a b c d e =
+    let s = settings-pass D M T a in
+    let l = lengths-pass m places values (length hs) (length xs) b in
     record {
       positive = s .0;
       shallow = s .1;
       paired = l .0;
       within = l .1;
       batched = l .2;
-      valid = map-passes D zs (c .0);
-      cells = sym (cells-by-hashes D (mapEnd 29 D zs) 0 hs ns (l .2)) ∙ d .0;
-      fits = total-fits (sumOf vs) ns (f .0);
-      room = space-passes places m (length hs) (f .1);
+      valid = map-passes D zs c;
+      cells = d;
+      room = space-passes places m (length hs) e;
     }
+
+pub counts-accepted : (D M : ℕ) (T : Float) (m places values : ℕ) (zs vs hs ns : List ℕ) → countsRefusal D M T m places values zs vs hs ns ≡ none
+    → Accepted never D m places values zs hs ns × (sumOf vs + sumOf ns ≤ 4294967295)
+unfolding countsRefusal
+counts-accepted D M T m places values zs vs hs ns e =
+    let a = or-else-none _ _ e in
+    let b = or-else-none _ _ (a .1) in
+    let c = or-else-none _ _ (b .1) in
+    let d = or-else-none _ _ (c .1) in
+    let f = or-else-none _ _ (d .1) in
+    (accepted never D M T m places values zs hs ns (a .0) (b .0) (c .0) (d .0) (f .1), total-fits (sumOf vs) ns (f .0))
 
 -- A valid map stands in its places.
 pub valid-stands : {A : Type 0} (K D m : ℕ) (zs : List ℕ) (vs : List A) → m ≤ length zs → m ≤ length vs → ValidMap K D (take m zs) → Stands K m zs vs
@@ -103,21 +108,37 @@ module _ {A : Type 0} (K : ℕ) (u : A) (n : ℕ) (zs : List ℕ) (vs : List A) 
   unfolding filled
   values-filled x = rw (held-values K u n zs vs w, held-length K u n zs vs w) refl
 
--- What an accepted call leaves, told by the definition: n entries, their total, and both buffers.
+-- What an accepted call leaves, told by the definition: n entries, and both buffers.
+module _ {A R X : Type 0} (g : Calls A R X) (u : A) (b : Buffers A) (c : Batch A) where
+  pub call-left : g .refusal (b .number) (length (b .zuniqs)) (length (b .values)) (take (b .number) (b .zuniqs)) (take (b .number) (b .values)) c ≡ none
+      → (n : ℕ) (zs : List ℕ) (vs : List A) (zs′ : List ℕ) (vs′ : List A) → Added (g .accept) (g .largest) (b .number) (cells g c) (b .zuniqs) (b .values) n zs vs
+      → length zs ≡ length (b .zuniqs) → length vs ≡ length (b .values)
+      → zs′ ≡ take n zs ++ replicate (length zs - n) 0 → vs′ ≡ take n vs ++ replicate (length vs - n) (g .filler)
+      → _≡_ {A = Buffers A × Answer R X} (record { number = n; zuniqs = zs′; values = vs′ }, Answer.accepted (g .report (held (g .largest) n zs vs))) (addCall g b c)
+  unfolding addCall
+  call-left e n zs vs zs′ vs′ w lz lv ez ev =
+      let s = run (g .accept) (held (g .largest) (b .number) (b .zuniqs) (b .values)) (cells g c) in
+      let k : n ≡ length s = sym (held-length (g .largest) u n zs vs (w .stands)) ∙ ap length (w .is) in
+      let z : zs′ ≡ zuniqBuffer (g .largest) (length (b .zuniqs)) s =
+      ez ∙ zuniqs-filled (g .largest) u n zs vs (w .stands) ∙ ap₂ (filled (zuniqOf (g .largest)) 0) lz (w .is) in
+      let v : vs′ ≡ valueBuffer (g .filler) (length (b .values)) s =
+      ev ∙ values-filled (g .largest) u n zs vs (w .stands) (g .filler) ∙ ap₂ (filled valueOf (g .filler)) lv (w .is) in
+      rw e (λ i. (record { number = k i; zuniqs = z i; values = v i }, Answer.accepted (g .report (w .is i))))
+
+-- The same for counts, with their total.
 pub counts-left : (D M : ℕ) (T : Float) (m : ℕ) (zs vs hs ns : List ℕ) → countsRefusal D M T m (length zs) (length vs) (take m zs) (take m vs) hs ns ≡ none
     → (n sum : ℕ) (zs₁ vs₁ zs₂ vs₂ : List ℕ) → Added (acceptCounts M T) 29 m (batch D hs ns) zs vs n zs₁ vs₁ → length zs₁ ≡ length zs → length vs₁ ≡ length vs
     → zs₂ ≡ take n zs₁ ++ replicate (length zs₁ - n) 0 → vs₂ ≡ take n vs₁ ++ replicate (length vs₁ - n) 0 → sumOf (take m vs) + sumOf ns ≡ sum
     → (CountsAdded.Added n sum, zs₂, vs₂) ≡ addCounts D M T m zs vs hs ns
-unfolding addCounts addCall
+unfolding addCounts
 counts-left D M T m zs vs hs ns e n sum zs₁ vs₁ zs₂ vs₂ w lz lv ez ev es =
-    let a = accepted D M T m (length zs) (length vs) (take m zs) (take m vs) hs ns e in
+    let a = counts-accepted D M T m (length zs) (length vs) (take m zs) (take m vs) hs ns e .0 in
     let s = valid-stands 29 D m zs vs (a .within) (omega (arith, a .within, a .paired)) (a .valid) in
-    let k : n ≡ length (run (acceptCounts M T) (held 29 m zs vs) (batch D hs ns)) = sym (held-length 29 0 n zs₁ vs₁ (w .stands)) ∙ ap length (w .is) in
-    let t : sum ≡ totalOf (run (acceptCounts M T) (held 29 m zs vs) (batch D hs ns)) =
+    let k : n ≡ length (held 29 n zs₁ vs₁) = sym (held-length 29 0 n zs₁ vs₁ (w .stands)) in
+    let t : sum ≡ totalOf (held 29 n zs₁ vs₁) =
     sym es ∙ ap₂ _+_ (sym (held-total 29 m zs vs s)) (sym (batch-total D hs ns (a .batched)))
-    ∙ sym (run-total (acceptCounts M T) (λ x. x) (λ d h k0 k1 k2 k3 x q. accepted-count-is-sum M T d h k0 k1 k2 k3 x q) (held 29 m zs vs) (batch D hs ns)) in
-    let z : zs₂ ≡ filled (zuniqOf 29) 0 (length zs) (run (acceptCounts M T) (held 29 m zs vs) (batch D hs ns)) =
-    ez ∙ zuniqs-filled 29 0 n zs₁ vs₁ (w .stands) ∙ ap₂ (filled (zuniqOf 29) 0) lz (w .is) in
-    let v : vs₂ ≡ filled valueOf 0 (length vs) (run (acceptCounts M T) (held 29 m zs vs) (batch D hs ns)) =
-    ev ∙ values-filled 29 0 n zs₁ vs₁ (w .stands) 0 ∙ ap₂ (filled valueOf 0) lv (w .is) in
-    rw e (λ i. (CountsAdded.Added (k i) (t i), z i, v i))
+    ∙ sym (run-total (acceptCounts M T) (λ x. x) (λ d h k0 k1 k2 k3 x q. accepted-count-is-sum M T d h k0 k1 k2 k3 x q) (held 29 m zs vs) (batch D hs ns))
+    ∙ sym (ap totalOf (w .is)) in
+    ap₂ (λ (k t : ℕ). (CountsAdded.Added k t, zs₂, vs₂)) k t
+    ∙ ap (λ (r : Buffers ℕ × Answer Refusal Report). (countsAdded (r .1), r .0 .zuniqs, r .0 .values))
+    (call-left (countCalls D M T) 0 (record { number = m; zuniqs = zs; values = vs }) (record { hashes = hs; values = ns }) e n zs₁ vs₁ zs₂ vs₂ w lz lv ez ev)

@@ -1,5 +1,5 @@
 -- The checks of an add call, turn by turn. Assumes nothing.
-use mathlib.Core.Path.{_≡_, refl, ap, sym, _∙_}
+use mathlib.Core.Path.{_≡_, refl, ap, _∙_}
 use mathlib.Core.Bool.{Bool, true, false, _||_, not, true≢false}
 use mathlib.Core.List.{List, [], _∷_}
 use mathlib.Core.Logic.{⊎-elim}
@@ -98,12 +98,32 @@ pub space-passes : (places m batch : ℕ) → spaceRefusal places m batch ≡ no
 unfolding spaceRefusal
 space-passes places m batch e = ltb-false places (m + batch) (refused-if-none _ _ e)
 
--- Cells of which all pass rise from `least`, and are cells of their depth.
-pub hashes-pass : (D least i : ℕ) (hs : List ℕ) → hashesRefusal D least i hs ≡ none → (k : ℕ) → k < length hs → getD hs k 0 < nHash D
-unfolding hashesRefusal
-hashes-pass D least i [] e k p = absurd (omega arith)
-hashes-pass D least i (h ∷ hs) e zero p = cell-passes (nHash D) least h i (or-else-none (cellRefusal (nHash D) least h i) (hashesRefusal D (h + 1) (i + 1) hs) e .0) .0
-hashes-pass D least i (h ∷ hs) e (suc k) p = hashes-pass D (h + 1) (i + 1) hs (or-else-none (cellRefusal (nHash D) least h i) (hashesRefusal D (h + 1) (i + 1) hs) e .1) k (omega arith)
+-- The cells of a batch with their values: the one at place i and those after it, and that where all pass they are cells of
+-- their depth.
+module _ {A : Type 0} (bad : A → Bool) (D least i : ℕ) (hs : List ℕ) (vs : List A) where
+  pub cells-at : (u : A) → i < length hs → i < length vs
+      → cellsRefusal bad D least i (drop i hs) (drop i vs)
+      ≡ orElse (cellRefusal (nHash D) least (getD hs i 0) i)
+      (orElse (refusedIf (bad (getD vs i u)) (Refusal.InvalidDensity i)) (cellsRefusal bad D (getD hs i 0 + 1) (i + 1) (drop (i + 1) hs) (drop (i + 1) vs)))
+  unfolding cellsRefusal
+  cells-at u p q = rw (drop-cons hs i 0 p, drop-cons vs i u q, add-one i) refl
+
+  pub cells-end : length hs ≤ i → cellsRefusal bad D least i (drop i hs) (drop i vs) ≡ none
+  unfolding cellsRefusal
+  cells-end p = rw (drop-of-length-le hs p) refl
+
+pub cells-pass : {A : Type 0} (bad : A → Bool) (D least i : ℕ) (hs : List ℕ) (vs : List A) → length hs ≡ length vs → cellsRefusal bad D least i hs vs ≡ none
+    → (k : ℕ) → k < length hs → getD hs k 0 < nHash D
+unfolding cellsRefusal
+cells-pass bad D least i [] vs n e k p = absurd (omega arith)
+cells-pass bad D least i (h ∷ hs) [] n e k p = absurd (omega arith)
+cells-pass bad D least i (h ∷ hs) (v ∷ vs) n e zero p =
+    cell-passes (nHash D) least h i (or-else-none (cellRefusal (nHash D) least h i) (orElse (refusedIf (bad v) (Refusal.InvalidDensity i)) (cellsRefusal bad D (h + 1) (i + 1) hs vs)) e .0) .0
+cells-pass bad D least i (h ∷ hs) (v ∷ vs) n e (suc k) p =
+    let rest = cellsRefusal bad D (h + 1) (i + 1) hs vs in
+    let value = refusedIf (bad v) (Refusal.InvalidDensity i) in
+    let q = or-else-none (cellRefusal (nHash D) least h i) (orElse value rest) e .1 in
+    cells-pass bad D (h + 1) (i + 1) hs vs (omega arith) (or-else-none value rest q .1) k (omega arith)
 
 -- Where no value is bad, the hashes are all that is tried.
 pub cells-by-hashes : (D least i : ℕ) (hs ns : List ℕ) → length hs ≡ length ns → cellsRefusal never D least i hs ns ≡ hashesRefusal D least i hs

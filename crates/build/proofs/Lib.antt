@@ -19,3 +19,4 @@ pub mod Checking
 pub mod Pushing
 pub mod Ends
 pub mod Accepted
+pub mod DensityCalls

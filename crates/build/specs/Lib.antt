@@ -6,3 +6,4 @@ pub mod Calls
 pub mod Standing
 pub mod Add
 pub mod Counts
+pub mod Densities

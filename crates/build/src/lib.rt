@@ -22,6 +22,7 @@ use zuniq::Zuniq64;
 use zuniq::refusal::Refusal;
 
 pub mod counts;
+pub mod densities;
 pub mod free;
 
 // Whether a call passes a check.

@@ -9,10 +9,10 @@ use Rattle.merger.proofs.Accept.{accepted-count-is-sum}
 use Rattle.build.specs.Buffers.{batch, held}
 use Rattle.build.specs.Calls.{addCall}
 use Rattle.build.specs.Add.{sumOf, mapEnd}
-use Rattle.build.specs.Counts.{countsRefusal, addCounts}
+use Rattle.build.specs.Counts.{never, countsRefusal, addCounts}
 use Rattle.build.proofs.Adding.{run-total}
-use Rattle.build.proofs.Checking.{total-passed, total-refused, hashes-pass}
-use Rattle.build.proofs.Accepted.{accepted, valid-stands, held-total, cleared, counts-left}
+use Rattle.build.proofs.Checking.{total-passed, total-refused, cells-pass}
+use Rattle.build.proofs.Accepted.{counts-accepted, valid-stands, held-total, cleared, counts-left}
 use borrow.Author.Needs.{needs}
 use Rattle.build.proofs.counts.add_counts.Statement.{statement}
 use Rattle.build.proofs.counts.add_counts.Tie as tie
@@ -27,7 +27,7 @@ enum-known-checked-2 : tie.Need-enum-known-checked-2
 enum-known-checked-2 c = search needs
 
 push-all-requires : tie.Need-push-all-requires
-push-all-requires c κs = let a = (accepted (c .before .before .before .before .before .before .before .before .before .before .before .before .args .depth) (c .before .before .before .before .before .before .before .before .before .before .before .before .args .depth-threshold) (c .before .before .before .before .before .before .before .before .before .before .before .before .args .chi2-threshold) (c .before .before .before .before .before .before .before .before .before .before .before .before .args .held) (length (c .before .before .before .before .before .before .before .before .before .before .before .before .args .zuniqs .now)) (length (c .before .before .before .before .before .before .before .before .before .before .before .before .args .counts .now)) (take (c .before .before .before .before .before .before .before .before .before .before .before .before .args .held) (c .before .before .before .before .before .before .before .before .before .before .before .before .args .zuniqs .now)) (take (c .before .before .before .before .before .before .before .before .before .before .before .before .args .held) (c .before .before .before .before .before .before .before .before .before .before .before .before .args .counts .now)) (c .before .before .before .before .before .before .before .before .before .before .before .before .args .hashes .now) (c .before .before .before .before .before .before .before .before .before .before .before .before .args .batch .now) ((total-passed (countsRefusal (c .before .before .before .before .before .before .before .before .before .before .before .before .args .depth) (c .before .before .before .before .before .before .before .before .before .before .before .before .args .depth-threshold) (c .before .before .before .before .before .before .before .before .before .before .before .before .args .chi2-threshold) (c .before .before .before .before .before .before .before .before .before .before .before .before .args .held) (length (c .before .before .before .before .before .before .before .before .before .before .before .before .args .zuniqs .now)) (length (c .before .before .before .before .before .before .before .before .before .before .before .before .args .counts .now)) (take (c .before .before .before .before .before .before .before .before .before .before .before .before .args .held) (c .before .before .before .before .before .before .before .before .before .before .before .before .args .zuniqs .now)) (take (c .before .before .before .before .before .before .before .before .before .before .before .before .args .held) (c .before .before .before .before .before .before .before .before .before .before .before .before .args .counts .now)) (c .before .before .before .before .before .before .before .before .before .before .before .before .args .hashes .now) (c .before .before .before .before .before .before .before .before .before .before .before .before .args .batch .now)) (sumOf (take (c .before .before .before .before .before .before .before .before .before .before .before .before .args .held) (c .before .before .before .before .before .before .before .before .before .before .before .before .args .counts .now)) + sumOf (c .before .before .before .before .before .before .before .before .before .before .before .before .args .batch .now)) (c .before .before .before .checked2 .given .0 .0) (sym (c .before .before .before .before .before .check .ensures) ∙ c .before .before .before .checked2 .given .1)) .0)) in let s = (valid-stands 29 (c .before .before .before .before .before .before .before .before .before .before .before .before .args .depth) (c .before .before .before .before .before .before .before .before .before .before .before .before .args .held) (c .before .before .before .before .before .before .before .before .before .before .before .before .args .zuniqs .now) (c .before .before .before .before .before .before .before .before .before .before .before .before .args .counts .now) (a .within) (omega (arith, a .within, a .paired)) (a .valid)) in ((s, a .shallow, a .batched, a .room, omega (arith, a .room, a .paired)), (hashes-pass (c .before .before .before .before .before .before .before .before .before .before .before .before .args .depth) (mapEnd 29 (c .before .before .before .before .before .before .before .before .before .before .before .before .args .depth) (take (c .before .before .before .before .before .before .before .before .before .before .before .before .args .held) (c .before .before .before .before .before .before .before .before .before .before .before .before .args .zuniqs .now))) 0 (c .before .before .before .before .before .before .before .before .before .before .before .before .args .hashes .now) (a .cells), omega (arith, a .fits, held-total 29 (c .before .before .before .before .before .before .before .before .before .before .before .before .args .held) (c .before .before .before .before .before .before .before .before .before .before .before .before .args .zuniqs .now) (c .before .before .before .before .before .before .before .before .before .before .before .before .args .counts .now) s)))
+push-all-requires c κs = let q = (counts-accepted (c .before .before .before .before .before .before .before .before .before .before .before .before .args .depth) (c .before .before .before .before .before .before .before .before .before .before .before .before .args .depth-threshold) (c .before .before .before .before .before .before .before .before .before .before .before .before .args .chi2-threshold) (c .before .before .before .before .before .before .before .before .before .before .before .before .args .held) (length (c .before .before .before .before .before .before .before .before .before .before .before .before .args .zuniqs .now)) (length (c .before .before .before .before .before .before .before .before .before .before .before .before .args .counts .now)) (take (c .before .before .before .before .before .before .before .before .before .before .before .before .args .held) (c .before .before .before .before .before .before .before .before .before .before .before .before .args .zuniqs .now)) (take (c .before .before .before .before .before .before .before .before .before .before .before .before .args .held) (c .before .before .before .before .before .before .before .before .before .before .before .before .args .counts .now)) (c .before .before .before .before .before .before .before .before .before .before .before .before .args .hashes .now) (c .before .before .before .before .before .before .before .before .before .before .before .before .args .batch .now) ((total-passed (countsRefusal (c .before .before .before .before .before .before .before .before .before .before .before .before .args .depth) (c .before .before .before .before .before .before .before .before .before .before .before .before .args .depth-threshold) (c .before .before .before .before .before .before .before .before .before .before .before .before .args .chi2-threshold) (c .before .before .before .before .before .before .before .before .before .before .before .before .args .held) (length (c .before .before .before .before .before .before .before .before .before .before .before .before .args .zuniqs .now)) (length (c .before .before .before .before .before .before .before .before .before .before .before .before .args .counts .now)) (take (c .before .before .before .before .before .before .before .before .before .before .before .before .args .held) (c .before .before .before .before .before .before .before .before .before .before .before .before .args .zuniqs .now)) (take (c .before .before .before .before .before .before .before .before .before .before .before .before .args .held) (c .before .before .before .before .before .before .before .before .before .before .before .before .args .counts .now)) (c .before .before .before .before .before .before .before .before .before .before .before .before .args .hashes .now) (c .before .before .before .before .before .before .before .before .before .before .before .before .args .batch .now)) (sumOf (take (c .before .before .before .before .before .before .before .before .before .before .before .before .args .held) (c .before .before .before .before .before .before .before .before .before .before .before .before .args .counts .now)) + sumOf (c .before .before .before .before .before .before .before .before .before .before .before .before .args .batch .now)) (c .before .before .before .checked2 .given .0 .0) (sym (c .before .before .before .before .before .check .ensures) ∙ c .before .before .before .checked2 .given .1)) .0)) in let a = q .0 in let s = (valid-stands 29 (c .before .before .before .before .before .before .before .before .before .before .before .before .args .depth) (c .before .before .before .before .before .before .before .before .before .before .before .before .args .held) (c .before .before .before .before .before .before .before .before .before .before .before .before .args .zuniqs .now) (c .before .before .before .before .before .before .before .before .before .before .before .before .args .counts .now) (a .within) (omega (arith, a .within, a .paired)) (a .valid)) in ((s, a .shallow, a .batched, a .room, omega (arith, a .room, a .paired)), (cells-pass never (c .before .before .before .before .before .before .before .before .before .before .before .before .args .depth) (mapEnd 29 (c .before .before .before .before .before .before .before .before .before .before .before .before .args .depth) (take (c .before .before .before .before .before .before .before .before .before .before .before .before .args .held) (c .before .before .before .before .before .before .before .before .before .before .before .before .args .zuniqs .now))) 0 (c .before .before .before .before .before .before .before .before .before .before .before .before .args .hashes .now) (c .before .before .before .before .before .before .before .before .before .before .before .before .args .batch .now) (a .batched) (a .cells), omega (arith, q .1, held-total 29 (c .before .before .before .before .before .before .before .before .before .before .before .before .args .held) (c .before .before .before .before .before .before .before .before .before .before .before .before .args .zuniqs .now) (c .before .before .before .before .before .before .before .before .before .before .before .before .args .counts .now) s)))
 
 mul-clear-zuniqs : tie.Need-mul-clear-zuniqs
 mul-clear-zuniqs c = search needs

@@ -1,0 +1,103 @@
+-- `densities::add_densities` meets its contract. Assumes nothing.
+use mathlib.Core.Path.{refl, sym, _∙_}
+use native.Mathlib.Omega.{arith}
+use lib.ListN.{length, take}
+use borrow.Author.Needs.{needs}
+use Rattle.merger.specs.Floats.{0·0, invalidDensity}
+use Rattle.build.specs.Calls.{addCall}
+use Rattle.build.specs.Add.{mapEnd}
+use Rattle.build.specs.Densities.{densitiesRefusal, addDensities}
+use Rattle.build.proofs.Checking.{check-passed, check-refused, cells-pass}
+use Rattle.build.proofs.Accepted.{valid-stands, cleared}
+use Rattle.build.proofs.DensityCalls.{densities-accepted, densities-left}
+use borrow.Author.Needs.{needs}
+use Rattle.build.proofs.densities.add_densities.Statement.{statement}
+use Rattle.build.proofs.densities.add_densities.Tie as tie
+
+check-requires : tie.Need-check-requires
+check-requires c κs = search needs
+
+enum-known-refusal : tie.Need-enum-known-refusal
+enum-known-refusal c = search needs
+
+same-length : tie.Need-same-length
+same-length c = search needs
+
+same-length-2 : tie.Need-same-length-2
+same-length-2 c = search needs
+
+returns : tie.Need-returns
+unfolding addDensities addCall
+returns c = rw (check-refused (densitiesRefusal (c .before .before .before .before .before .before .before .before .before .before .args .depth) (c .before .before .before .before .before .before .before .before .before .before .args .depth-threshold) (c .before .before .before .before .before .before .before .before .before .before .args .chi2-threshold) (c .before .before .before .before .before .before .before .before .before .before .args .held) (length (c .before .before .before .before .before .before .before .before .before .before .args .zuniqs .now)) (length (c .before .before .before .before .before .before .before .before .before .before .args .densities .now)) (take (c .before .before .before .before .before .before .before .before .before .before .args .held) (c .before .before .before .before .before .before .before .before .before .before .args .zuniqs .now)) (take (c .before .before .before .before .before .before .before .before .before .before .args .held) (c .before .before .before .before .before .before .before .before .before .before .args .densities .now)) (c .before .before .before .before .before .before .before .before .before .before .args .hashes .now) (c .before .before .before .before .before .before .before .before .before .before .args .batch .now)) (c .before .refusal .given .0 .0) (sym (c .before .refusal .given .1) ∙ c .before .before .before .check .ensures)) refl
+
+enum-told : tie.Need-enum-told
+enum-told c = search needs
+
+push-all-requires : tie.Need-push-all-requires
+push-all-requires c κs = let a = (densities-accepted (c .before .before .before .before .before .before .before .before .before .before .before .args .depth) (c .before .before .before .before .before .before .before .before .before .before .before .args .depth-threshold) (c .before .before .before .before .before .before .before .before .before .before .before .args .chi2-threshold) (c .before .before .before .before .before .before .before .before .before .before .before .args .held) (length (c .before .before .before .before .before .before .before .before .before .before .before .args .zuniqs .now)) (length (c .before .before .before .before .before .before .before .before .before .before .before .args .densities .now)) (take (c .before .before .before .before .before .before .before .before .before .before .before .args .held) (c .before .before .before .before .before .before .before .before .before .before .before .args .zuniqs .now)) (take (c .before .before .before .before .before .before .before .before .before .before .before .args .held) (c .before .before .before .before .before .before .before .before .before .before .before .args .densities .now)) (c .before .before .before .before .before .before .before .before .before .before .before .args .hashes .now) (c .before .before .before .before .before .before .before .before .before .before .before .args .batch .now) (check-passed (densitiesRefusal (c .before .before .before .before .before .before .before .before .before .before .before .args .depth) (c .before .before .before .before .before .before .before .before .before .before .before .args .depth-threshold) (c .before .before .before .before .before .before .before .before .before .before .before .args .chi2-threshold) (c .before .before .before .before .before .before .before .before .before .before .before .args .held) (length (c .before .before .before .before .before .before .before .before .before .before .before .args .zuniqs .now)) (length (c .before .before .before .before .before .before .before .before .before .before .before .args .densities .now)) (take (c .before .before .before .before .before .before .before .before .before .before .before .args .held) (c .before .before .before .before .before .before .before .before .before .before .before .args .zuniqs .now)) (take (c .before .before .before .before .before .before .before .before .before .before .before .args .held) (c .before .before .before .before .before .before .before .before .before .before .before .args .densities .now)) (c .before .before .before .before .before .before .before .before .before .before .before .args .hashes .now) (c .before .before .before .before .before .before .before .before .before .before .before .args .batch .now)) (sym (c .before .before .enum-told .given .1) ∙ c .before .before .before .before .check .ensures))) in ((((valid-stands 29 (c .before .before .before .before .before .before .before .before .before .before .before .args .depth) (c .before .before .before .before .before .before .before .before .before .before .before .args .held) (c .before .before .before .before .before .before .before .before .before .before .before .args .zuniqs .now) (c .before .before .before .before .before .before .before .before .before .before .before .args .densities .now) (a .within) (omega (arith, a .within, a .paired)) (a .valid)), a .shallow, a .batched, a .room, omega (arith, a .room, a .paired))), cells-pass invalidDensity (c .before .before .before .before .before .before .before .before .before .before .before .args .depth) (mapEnd 29 (c .before .before .before .before .before .before .before .before .before .before .before .args .depth) (take (c .before .before .before .before .before .before .before .before .before .before .before .args .held) (c .before .before .before .before .before .before .before .before .before .before .before .args .zuniqs .now))) 0 (c .before .before .before .before .before .before .before .before .before .before .before .args .hashes .now) (c .before .before .before .before .before .before .before .before .before .before .before .args .batch .now) (a .batched) (a .cells))
+
+mul-clear-zuniqs : tie.Need-mul-clear-zuniqs
+mul-clear-zuniqs c = search needs
+
+sub-clear-zuniqs : tie.Need-sub-clear-zuniqs
+sub-clear-zuniqs c = search needs
+
+part-clear-zuniqs-start : tie.Need-part-clear-zuniqs-start
+part-clear-zuniqs-start c = search needs
+
+part-clear-zuniqs-end : tie.Need-part-clear-zuniqs-end
+part-clear-zuniqs-end c = search needs
+
+clear-zuniqs-requires : tie.Need-clear-zuniqs-requires
+clear-zuniqs-requires c κs = search needs
+
+mul-clear-densities : tie.Need-mul-clear-densities
+mul-clear-densities c = search needs
+
+sub-clear-densities : tie.Need-sub-clear-densities
+sub-clear-densities c = search needs
+
+part-clear-densities-start : tie.Need-part-clear-densities-start
+part-clear-densities-start c = search needs
+
+part-clear-densities-end : tie.Need-part-clear-densities-end
+part-clear-densities-end c = search needs
+
+clear-densities-requires : tie.Need-clear-densities-requires
+clear-densities-requires c κs = search needs
+
+same-length-3 : tie.Need-same-length-3
+same-length-3 c = search needs
+
+same-length-4 : tie.Need-same-length-4
+same-length-4 c = search needs
+
+returns-2 : tie.Need-returns-2
+returns-2 c = let w = c .before .before .before .before .before .before .before .before .before .before .before .before .push-all .ensures in
+    densities-left (c .before .before .before .before .before .before .before .before .before .before .before .before .before .before .before .before .before .before .before .before .before .before .before .before .args .depth) (c .before .before .before .before .before .before .before .before .before .before .before .before .before .before .before .before .before .before .before .before .before .before .before .before .args .depth-threshold) (c .before .before .before .before .before .before .before .before .before .before .before .before .before .before .before .before .before .before .before .before .before .before .before .before .args .chi2-threshold) (c .before .before .before .before .before .before .before .before .before .before .before .before .before .before .before .before .before .before .before .before .before .before .before .before .args .held) (c .before .before .before .before .before .before .before .before .before .before .before .before .before .before .before .before .before .before .before .before .before .before .before .before .args .zuniqs .now) (c .before .before .before .before .before .before .before .before .before .before .before .before .before .before .before .before .before .before .before .before .before .before .before .before .args .densities .now) (c .before .before .before .before .before .before .before .before .before .before .before .before .before .before .before .before .before .before .before .before .before .before .before .before .args .hashes .now) (c .before .before .before .before .before .before .before .before .before .before .before .before .before .before .before .before .before .before .before .before .before .before .before .before .args .batch .now) (check-passed (densitiesRefusal (c .before .before .before .before .before .before .before .before .before .before .before .before .before .before .before .before .before .before .before .before .before .before .before .before .args .depth) (c .before .before .before .before .before .before .before .before .before .before .before .before .before .before .before .before .before .before .before .before .before .before .before .before .args .depth-threshold) (c .before .before .before .before .before .before .before .before .before .before .before .before .before .before .before .before .before .before .before .before .before .before .before .before .args .chi2-threshold) (c .before .before .before .before .before .before .before .before .before .before .before .before .before .before .before .before .before .before .before .before .before .before .before .before .args .held) (length (c .before .before .before .before .before .before .before .before .before .before .before .before .before .before .before .before .before .before .before .before .before .before .before .before .args .zuniqs .now)) (length (c .before .before .before .before .before .before .before .before .before .before .before .before .before .before .before .before .before .before .before .before .before .before .before .before .args .densities .now)) (take (c .before .before .before .before .before .before .before .before .before .before .before .before .before .before .before .before .before .before .before .before .before .before .before .before .args .held) (c .before .before .before .before .before .before .before .before .before .before .before .before .before .before .before .before .before .before .before .before .before .before .before .before .args .zuniqs .now)) (take (c .before .before .before .before .before .before .before .before .before .before .before .before .before .before .before .before .before .before .before .before .before .before .before .before .args .held) (c .before .before .before .before .before .before .before .before .before .before .before .before .before .before .before .before .before .before .before .before .before .before .before .before .args .densities .now)) (c .before .before .before .before .before .before .before .before .before .before .before .before .before .before .before .before .before .before .before .before .before .before .before .before .args .hashes .now) (c .before .before .before .before .before .before .before .before .before .before .before .before .before .before .before .before .before .before .before .before .before .before .before .before .args .batch .now)) (sym (c .before .before .before .before .before .before .before .before .before .before .before .before .before .before .before .enum-told .given .1) ∙ c .before .before .before .before .before .before .before .before .before .before .before .before .before .before .before .before .before .check .ensures)) (c .before .before .before .before .before .before .before .before .before .before .before .before .push-all .result) (c .before .before .before .before .before .before .before .before .before .before .before .before .push-all .last .0) (c .before .before .before .before .before .before .before .before .before .before .before .before .push-all .last .1 .0) _ _ w (c .before .before .before .before .before .before .before .before .before .before .before .before .push-all .kept .0) (c .before .before .before .before .before .before .before .before .before .before .before .before .push-all .kept .1 .0)
+    (cleared (c .before .before .before .before .before .before .before .before .before .before .before .before .push-all .result) (c .before .before .before .before .before .before .before .before .before .before .before .before .push-all .last .0) _ 0 (w .stands .zuniqs) (c .before .before .before .before .before .before .clear-zuniqs .ensures)) (cleared (c .before .before .before .before .before .before .before .before .before .before .before .before .push-all .result) (c .before .before .before .before .before .before .before .before .before .before .before .before .push-all .last .1 .0) _ 0·0 (w .stands .values) (c .before .before .clear-densities .ensures))
+
+pub add-densities-spec : {M : Type 1} → statement M
+add-densities-spec =
+    tie.close
+    (tie.spec
+    check-requires
+    enum-known-refusal
+    same-length
+    same-length-2
+    returns
+    enum-told
+    push-all-requires
+    mul-clear-zuniqs
+    sub-clear-zuniqs
+    part-clear-zuniqs-start
+    part-clear-zuniqs-end
+    clear-zuniqs-requires
+    mul-clear-densities
+    sub-clear-densities
+    part-clear-densities-start
+    part-clear-densities-end
+    clear-densities-requires
+    same-length-3
+    same-length-4
+    returns-2)

@@ -1,0 +1,77 @@
+-- `densities::push` meets its contract. Assumes nothing.
+use mathlib.Core.Path.{refl, _∙_}
+use native.Mathlib.Omega.{arith}
+use Rattle.build.proofs.Places.{stored, put-front}
+use borrow.Author.Needs.{needs}
+use borrow.Author.Needs.{needs}
+use Rattle.build.proofs.densities.push.Statement.{statement}
+use Rattle.build.proofs.densities.push.Tie as tie
+
+mul-put-zuniq : tie.Need-mul-put-zuniq
+mul-put-zuniq c = search needs
+
+sub-put-zuniq : tie.Need-sub-put-zuniq
+sub-put-zuniq c = search needs
+
+part-put-zuniq-start : tie.Need-part-put-zuniq-start
+part-put-zuniq-start c = search needs
+
+part-put-zuniq-end : tie.Need-part-put-zuniq-end
+part-put-zuniq-end c = search needs
+
+to-zuniq-unchecked-requires : tie.Need-to-zuniq-unchecked-requires
+to-zuniq-unchecked-requires c κs = search needs
+
+put-zuniq-requires : tie.Need-put-zuniq-requires
+put-zuniq-requires c κs = search needs
+
+mul-put-density : tie.Need-mul-put-density
+mul-put-density c = search needs
+
+sub-put-density : tie.Need-sub-put-density
+sub-put-density c = search needs
+
+part-put-density-start : tie.Need-part-put-density-start
+part-put-density-start c = search needs
+
+part-put-density-end : tie.Need-part-put-density-end
+part-put-density-end c = search needs
+
+put-density-requires : tie.Need-put-density-requires
+put-density-requires c κs = search needs
+
+add-collapse : tie.Need-add-collapse
+add-collapse c = search needs
+
+collapse-requires : tie.Need-collapse-requires
+collapse-requires c κs = let s = (stored 29 (c .before .before .before .before .before .before .before .before .before .before .before .before .before .args .n) (c .before .before .before .before .before .before .before .before .before .to-zuniq-unchecked .result) (c .before .before .before .before .before .before .before .before .before .before .before .before .before .args .depth) (c .before .before .before .before .before .before .before .before .before .before .before .before .before .args .hash) (c .before .before .before .before .before .before .before .before .before .before .before .before .before .args .density) (c .before .before .before .before .before .before .before .before .before .before .before .before .before .args .zuniqs .now) (c .before .before .before .before .before .before .before .before .before .before .before .before .before .args .densities .now) _ _ (c .before .before .before .before .before .before .before .before .before .before .before .before .before .pre .0) (c .before .before .before .before .before .before .before .before .before .before .before .before .before .pre .1) (c .before .before .before .before .before .before .before .before .before .before .before .before .before .pre .2) (record { deep = c .before .before .before .before .before .before .before .before .before .before .before .before .before .pre .3; hash = c .before .before .before .before .before .before .before .before .before .before .before .before .before .pre .4; is = c .before .before .before .before .before .before .before .before .before .to-zuniq-unchecked .ensures }) (put-front (c .before .before .before .before .before .before .before .before .before .before .before .before .before .args .n) (c .before .before .before .before .before .before .before .before .before .before .before .before .before .args .zuniqs .now) _ (c .before .before .before .before .before .before .before .before .before .to-zuniq-unchecked .result) (c .before .before .before .before .before .before .before .before .before .before .before .before .before .pre .1) (c .before .before .before .before .before .before .before .before .put-zuniq .ensures)) (put-front (c .before .before .before .before .before .before .before .before .before .before .before .before .before .args .n) (c .before .before .before .before .before .before .before .before .before .before .before .before .before .args .densities .now) _ (c .before .before .before .before .before .before .before .before .before .before .before .before .before .args .density) (c .before .before .before .before .before .before .before .before .before .before .before .before .before .pre .2) (c .before .before .before .before .put-density .ensures))) in (omega arith, s .stands, s .top)
+
+same-length : tie.Need-same-length
+same-length c = search needs
+
+same-length-2 : tie.Need-same-length-2
+same-length-2 c = search needs
+
+returns : tie.Need-returns
+returns c = let s = (stored 29 (c .before .before .before .before .before .before .before .before .before .before .before .before .before .before .before .before .before .before .args .n) (c .before .before .before .before .before .before .before .before .before .before .before .before .before .before .to-zuniq-unchecked .result) (c .before .before .before .before .before .before .before .before .before .before .before .before .before .before .before .before .before .before .args .depth) (c .before .before .before .before .before .before .before .before .before .before .before .before .before .before .before .before .before .before .args .hash) (c .before .before .before .before .before .before .before .before .before .before .before .before .before .before .before .before .before .before .args .density) (c .before .before .before .before .before .before .before .before .before .before .before .before .before .before .before .before .before .before .args .zuniqs .now) (c .before .before .before .before .before .before .before .before .before .before .before .before .before .before .before .before .before .before .args .densities .now) _ _ (c .before .before .before .before .before .before .before .before .before .before .before .before .before .before .before .before .before .before .pre .0) (c .before .before .before .before .before .before .before .before .before .before .before .before .before .before .before .before .before .before .pre .1) (c .before .before .before .before .before .before .before .before .before .before .before .before .before .before .before .before .before .before .pre .2) (record { deep = c .before .before .before .before .before .before .before .before .before .before .before .before .before .before .before .before .before .before .pre .3; hash = c .before .before .before .before .before .before .before .before .before .before .before .before .before .before .before .before .before .before .pre .4; is = c .before .before .before .before .before .before .before .before .before .before .before .before .before .before .to-zuniq-unchecked .ensures }) (put-front (c .before .before .before .before .before .before .before .before .before .before .before .before .before .before .before .before .before .before .args .n) (c .before .before .before .before .before .before .before .before .before .before .before .before .before .before .before .before .before .before .args .zuniqs .now) _ (c .before .before .before .before .before .before .before .before .before .before .before .before .before .before .to-zuniq-unchecked .result) (c .before .before .before .before .before .before .before .before .before .before .before .before .before .before .before .before .before .before .pre .1) (c .before .before .before .before .before .before .before .before .before .before .before .before .before .put-zuniq .ensures)) (put-front (c .before .before .before .before .before .before .before .before .before .before .before .before .before .before .before .before .before .before .args .n) (c .before .before .before .before .before .before .before .before .before .before .before .before .before .before .before .before .before .before .args .densities .now) _ (c .before .before .before .before .before .before .before .before .before .before .before .before .before .before .before .before .before .before .args .density) (c .before .before .before .before .before .before .before .before .before .before .before .before .before .before .before .before .before .before .pre .2) (c .before .before .before .before .before .before .before .before .before .put-density .ensures))) in let e = c .before .before .before .before .collapse .ensures in record { stands = e .stands; least = e .least; is = e .is ∙ rw (s .map-is) refl }
+
+pub push-spec : {M : Type 1} → statement M
+push-spec =
+    tie.close
+    (tie.spec
+    mul-put-zuniq
+    sub-put-zuniq
+    part-put-zuniq-start
+    part-put-zuniq-end
+    to-zuniq-unchecked-requires
+    put-zuniq-requires
+    mul-put-density
+    sub-put-density
+    part-put-density-start
+    part-put-density-end
+    put-density-requires
+    add-collapse
+    collapse-requires
+    same-length
+    same-length-2
+    returns)

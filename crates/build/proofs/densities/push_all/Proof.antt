@@ -1,0 +1,75 @@
+-- `densities::push_all` meets its contract. The loop's invariant is `Before`. Assumes nothing.
+use mathlib.Core.Path.{_≡_, refl, _∙_}
+use Prim.Native.Nat.{_-_}
+use native.Mathlib.Omega.{arith}
+use lib.Ieee.{nan}
+use lib.ListN.{length}
+use borrow.Author.Needs.{needs}
+use Rattle.merger.specs.Merge.{acceptDensities}
+use Rattle.build.proofs.Pushing.{Before, before-first, before-next, after-last}
+use Rattle.build.proofs.densities.push_all.Statement.{statement}
+use Rattle.build.proofs.densities.push_all.Tie as tie
+
+abbrev Inv-loop : tie.InvT-loop
+Inv-loop zuniqs₀ densities₀ held depth hashes batch depth-threshold chi2-threshold n₀ i₀ zuniqs densities n i =
+    Before (acceptDensities depth-threshold chi2-threshold) 29 depth held hashes batch zuniqs₀ densities₀ i n zuniqs densities
+    × (length zuniqs ≡ length zuniqs₀) × (length densities ≡ length densities₀)
+
+abbrev μ-loop : tie.MeasureT-loop
+μ-loop zuniqs₀ densities₀ held depth hashes batch depth-threshold chi2-threshold n₀ i₀ zuniqs densities n i =
+    length hashes - i
+
+loop-holds : tie.Need-loop-holds Inv-loop μ-loop
+loop-holds c = (before-first (acceptDensities (c .before .before .before .before .args .depth-threshold) (c .before .before .before .before .args .chi2-threshold)) 29 (c .before .before .before .before .args .depth) (c .before .before .before .before .args .held) (c .before .before .before .before .args .hashes .now) (c .before .before .before .before .args .batch .now) (c .before .before .before .before .args .zuniqs .now) (c .before .before .before .before .args .densities .now) (c .before .before .before .before .pre .0 .0), refl, refl)
+
+mul-push : tie.Need-mul-push Inv-loop μ-loop
+mul-push c = search needs
+
+shared-slice-read-push : tie.Need-shared-slice-read-push Inv-loop μ-loop
+shared-slice-read-push c = search needs
+
+mul-push-2 : tie.Need-mul-push-2 Inv-loop μ-loop
+mul-push-2 c = omega (arith, (c .before .before .before .loop-test .taken), c .before .before .before .before .before .before .before .before .before .pre .0 .2, c .before .before .before .before .before .before .before .before .before .good)
+
+shared-slice-read-push-2 : tie.Need-shared-slice-read-push-2 Inv-loop μ-loop
+shared-slice-read-push-2 c = omega (arith, (c .before .before .before .before .loop-test .taken), c .before .before .before .before .before .before .before .before .before .before .pre .0 .2)
+
+push-requires : tie.Need-push-requires Inv-loop μ-loop
+push-requires c κs = (let w = c .before .before .before .before .before .loop .inv .0 in (w .stands, omega (arith, w .least, (c .before .before .before .before .loop-test .taken), c .before .before .before .before .before .loop .inv .1, c .before .before .before .before .before .before .before .before .before .before .pre .0 .3), omega (arith, w .least, (c .before .before .before .before .loop-test .taken), c .before .before .before .before .before .loop .inv .2, c .before .before .before .before .before .before .before .before .before .before .pre .0 .4), c .before .before .before .before .before .before .before .before .before .before .pre .0 .1, c .before .before .before .before .before .before .before .before .before .before .pre .1 (c .before .before .before .before .before .loop .i) (c .before .before .before .before .loop-test .taken)))
+
+add-i : tie.Need-add-i Inv-loop μ-loop
+add-i c = search needs
+
+loop-less : tie.Need-loop-less Inv-loop μ-loop
+loop-less c = search needs
+
+loop-again : tie.Need-loop-again Inv-loop μ-loop
+loop-again c = (before-next (acceptDensities (c .before .before .before .before .before .before .before .before .before .before .before .before .before .before .before .args .depth-threshold) (c .before .before .before .before .before .before .before .before .before .before .before .before .before .before .before .args .chi2-threshold)) 29 (c .before .before .before .before .before .before .before .before .before .before .before .before .before .before .before .args .depth) (c .before .before .before .before .before .before .before .before .before .before .before .before .before .before .before .args .held) (c .before .before .before .before .before .before .before .before .before .before .before .before .before .before .before .args .hashes .now) (c .before .before .before .before .before .before .before .before .before .before .before .before .before .before .before .args .batch .now) (c .before .before .before .before .before .before .before .before .before .before .before .before .before .before .before .args .zuniqs .now) (c .before .before .before .before .before .before .before .before .before .before .before .before .before .before .before .args .densities .now) nan (c .before .before .before .before .before .before .before .before .before .before .loop .i) (c .before .before .before .before .before .before .before .before .before .before .loop .n) (c .before .before .before .before .before .before .before .before .before .before .loop .zuniqs) (c .before .before .before .before .before .before .before .before .before .before .loop .densities) (c .before .before .before .before .before .before .before .before .before .before .loop .inv .0) (c .before .before .before .before .before .before .before .before .before .loop-test .taken) (omega (arith, c .before .before .before .before .before .before .before .before .before .loop-test .taken, c .before .before .before .before .before .before .before .before .before .before .before .before .before .before .before .pre .0 .2)) _ _ _ (c .before .before .before .before .push .ensures), c .before .before .before .before .push .kept .0 ∙ c .before .before .before .before .before .before .before .before .before .before .loop .inv .1, c .before .before .before .before .push .kept .1 .0 ∙ c .before .before .before .before .before .before .before .before .before .before .loop .inv .2)
+
+same-length : tie.Need-same-length Inv-loop μ-loop
+same-length c = c .before .loop .inv .1
+
+same-length-2 : tie.Need-same-length-2 Inv-loop μ-loop
+same-length-2 c = c .before .loop .inv .2
+
+returns : tie.Need-returns Inv-loop μ-loop
+returns c = after-last (acceptDensities (c .before .before .before .before .before .before .args .depth-threshold) (c .before .before .before .before .before .before .args .chi2-threshold)) 29 (c .before .before .before .before .before .before .args .depth) (c .before .before .before .before .before .before .args .held) (c .before .before .before .before .before .before .args .hashes .now) (c .before .before .before .before .before .before .args .batch .now) (c .before .before .before .before .before .before .args .zuniqs .now) (c .before .before .before .before .before .before .args .densities .now) nan (c .before .loop .i) (c .before .loop .n) (c .before .loop .zuniqs) (c .before .loop .densities) (c .before .loop .inv .0) (c .before .before .before .before .before .before .pre .0 .2) (c .loop-test .left)
+
+pub push-all-spec : {M : Type 1} → statement M
+push-all-spec =
+    tie.close
+    (tie.spec
+    Inv-loop
+    μ-loop
+    loop-holds
+    mul-push
+    shared-slice-read-push
+    mul-push-2
+    shared-slice-read-push-2
+    push-requires
+    add-i
+    loop-less
+    loop-again
+    same-length
+    same-length-2
+    returns)

@@ -1,0 +1,274 @@
+// Adding densities. There is no total to keep, but held densities and those of the batch are checked:
+// chi-square is told of finite densities from 0 up.
+ghost use mathlib.Core.Path.{_≡_};
+ghost use Prim.Native.Nat.{ℕ, _+_, _-_, _≤_, _<_};
+ghost use lib.Ieee.{nan};
+ghost use lib.ListN.{length, getD, take};
+ghost use Rattle.zuniq.specs.Cells.{nHash};
+ghost use Rattle.zuniq.specs.Codec.{IsZuniqOf};
+ghost use Rattle.merger.specs.Floats.{invalidDensity};
+ghost use Rattle.merger.specs.Merge.{mergeDensities, acceptDensities};
+ghost use Rattle.build.specs.Map.{entry};
+ghost use Rattle.build.specs.Buffers.{batch as batchOf};
+ghost use Rattle.build.specs.Standing.{Stands, Collapsed, Pushed, Added};
+ghost use Rattle.build.specs.Add.{checkOf, cellsRefusal};
+ghost use Rattle.build.specs.Densities.{densityRefusal, densitiesRefusal, addDensities};
+use crate::Check;
+use crate::are_siblings;
+use crate::check_cell;
+use crate::check_lengths;
+use crate::check_map;
+use crate::check_settings;
+use crate::check_space;
+use crate::end_of_map;
+use crate::free::clear_densities;
+use crate::free::clear_zuniqs;
+use crate::free::put_density;
+use crate::free::put_zuniq;
+use merger::DensityMerge;
+use merger::invalid_density;
+use merger::merge_densities;
+use zuniq::Zuniq64;
+use zuniq::n_hash_unchecked;
+use zuniq::refusal::Refusal;
+
+// What adding densities answers: the number of entries, or why it is refused.
+pub enum DensitiesAdded {
+    Added { entries: usize },
+    Refused(Refusal),
+}
+
+// Adds a batch of cells of one depth to the first `held` entries of a map in two buffers.
+pub fn add_densities(
+    depth: u8,
+    depth_threshold: u8,
+    chi2_threshold: f64,
+    held: usize,
+    zuniqs: &mut [u64],
+    densities: &mut [f64],
+    hashes: &[u64],
+    batch: &[f64],
+) -> DensitiesAdded
+    ensures { λ r. ⌜ (r, now (zuniqs .exit), now (densities .exit)) ≡ addDensities depth «depth_threshold» «chi2_threshold» held (now (zuniqs .entry)) (now (densities .entry)) (now (hashes .entry)) (now (batch .entry)) ⌝ }
+{
+    if let Check::Refused(refusal) = check(
+        depth,
+        depth_threshold,
+        chi2_threshold,
+        held,
+        zuniqs,
+        densities,
+        hashes,
+        batch,
+    ) {
+        return DensitiesAdded::Refused(refusal);
+    }
+    let entries = push_all(
+        zuniqs,
+        densities,
+        held,
+        depth,
+        hashes,
+        batch,
+        depth_threshold,
+        chi2_threshold,
+    );
+    clear_zuniqs(&mut zuniqs[entries..]);
+    clear_densities(&mut densities[entries..]);
+    DensitiesAdded::Added { entries }
+}
+
+// Everything that can be refused, in the order of the table.
+fn check(
+    depth: u8,
+    depth_threshold: u8,
+    chi2_threshold: f64,
+    held: usize,
+    zuniqs: &[u64],
+    densities: &[f64],
+    hashes: &[u64],
+    batch: &[f64],
+) -> Check
+    ensures { λ r. ⌜ r ≡ checkOf (densitiesRefusal depth «depth_threshold» «chi2_threshold» held (length (now (zuniqs .entry))) (length (now (densities .entry))) (take held (now (zuniqs .entry))) (take held (now (densities .entry))) (now (hashes .entry)) (now (batch .entry))) ⌝ }
+{
+    if let Check::Refused(refusal) = check_settings(depth, depth_threshold, chi2_threshold) {
+        return Check::Refused(refusal);
+    }
+    if let Check::Refused(refusal) = check_lengths(
+        held,
+        zuniqs.len(),
+        densities.len(),
+        hashes.len(),
+        batch.len(),
+    ) {
+        return Check::Refused(refusal);
+    }
+    if let Check::Refused(refusal) = check_map(depth, &zuniqs[..held]) {
+        return Check::Refused(refusal);
+    }
+    if let Check::Refused(refusal) = check_densities(&densities[..held]) {
+        return Check::Refused(refusal);
+    }
+    let end = end_of_map(depth, &zuniqs[..held]);
+    if let Check::Refused(refusal) = check_cells(depth, end, hashes, batch) {
+        return Check::Refused(refusal);
+    }
+    check_space(zuniqs.len(), held, hashes.len())
+}
+
+// Appends the cells of a batch, one after the other. Answers the number of entries.
+fn push_all(
+    zuniqs: &mut [u64],
+    densities: &mut [f64],
+    held: usize,
+    depth: u8,
+    hashes: &[u64],
+    batch: &[f64],
+    depth_threshold: u8,
+    chi2_threshold: f64,
+) -> usize
+    requires { ⌜ Stands 29 held (now zuniqs) (now densities) × (depth ≤ 29) × (length (now hashes) ≡ length (now batch)) × (held + length (now hashes) ≤ length (now zuniqs)) × (held + length (now hashes) ≤ length (now densities)) ⌝ }
+    requires { ⌜ ((i : ℕ) → i < length (now hashes) → getD (now hashes) i 0 < nHash depth) ⌝ }
+    ensures { λ r. ⌜ Added (acceptDensities «depth_threshold» «chi2_threshold») 29 held (batchOf depth (now (hashes .entry)) (now (batch .entry))) (now (zuniqs .entry)) (now (densities .entry)) r (now (zuniqs .exit)) (now (densities .exit)) ⌝ }
+{
+    let mut n = held;
+    let mut i = 0;
+    while i < hashes.len() {
+        n = push(
+            zuniqs,
+            densities,
+            n,
+            depth,
+            hashes[i],
+            batch[i],
+            depth_threshold,
+            chi2_threshold,
+        );
+        i += 1;
+    }
+    n
+}
+
+// Appends a cell behind n entries, through the free part of the buffers, and merges what can be.
+// Answers the number of entries.
+fn push(
+    zuniqs: &mut [u64],
+    densities: &mut [f64],
+    n: usize,
+    depth: u8,
+    hash: u64,
+    density: f64,
+    depth_threshold: u8,
+    chi2_threshold: f64,
+) -> usize
+    requires { ⌜ Stands 29 n (now zuniqs) (now densities) × (n < length (now zuniqs)) × (n < length (now densities)) × (depth ≤ 29) × (hash < nHash depth) ⌝ }
+    ensures { λ r. ⌜ Pushed (acceptDensities «depth_threshold» «chi2_threshold») 29 n (entry depth hash density) (now (zuniqs .entry)) (now (densities .entry)) r (now (zuniqs .exit)) (now (densities .exit)) ⌝ }
+{
+    put_zuniq(&mut zuniqs[n..], Zuniq64::to_zuniq_unchecked(depth, hash));
+    put_density(&mut densities[n..], density);
+    collapse(
+        zuniqs,
+        densities,
+        n + 1,
+        depth,
+        hash,
+        depth_threshold,
+        chi2_threshold,
+    )
+}
+
+// Merges the last four entries as long as they are siblings that the merger accepts. The last entry
+// is the cell given; answers the number of entries left.
+fn collapse(
+    zuniqs: &mut [u64],
+    densities: &mut [f64],
+    len: usize,
+    last_depth: u8,
+    last_hash: u64,
+    depth_threshold: u8,
+    chi2_threshold: f64,
+) -> usize
+    requires { ⌜ (0 < len) × Stands 29 len (now zuniqs) (now densities) × IsZuniqOf 29 (getD (now zuniqs) (len - 1) 0) «last_depth» «last_hash» ⌝ }
+    ensures { λ r. ⌜ Collapsed (acceptDensities «depth_threshold» «chi2_threshold») 29 len (now (zuniqs .entry)) (now (densities .entry)) r (now (zuniqs .exit)) (now (densities .exit)) ⌝ }
+{
+    let mut n = len;
+    let mut depth = last_depth;
+    let mut hash = last_hash;
+    while depth > 0 {
+        if !are_siblings(zuniqs, n, depth, hash) {
+            return n;
+        }
+        depth -= 1;
+        hash /= 4;
+        match merge_last(densities, n, depth, hash, depth_threshold, chi2_threshold) {
+            DensityMerge::Kept(_) => return n,
+            DensityMerge::Merged(density) => {
+                let first = n - 4;
+                zuniqs[first] = Zuniq64::to_zuniq_unchecked(depth, hash);
+                densities[first] = density;
+                n = first + 1;
+            }
+        }
+    }
+    n
+}
+
+// What becomes of the last four of n densities.
+fn merge_last(
+    densities: &[f64],
+    n: usize,
+    parent_depth: u8,
+    parent_hash: u64,
+    depth_threshold: u8,
+    chi2_threshold: f64,
+) -> DensityMerge
+    requires { ⌜ (4 ≤ n) × (n ≤ length (now densities)) × («parent_depth» ≤ 29) ⌝ }
+    ensures { λ r. ⌜ r ≡ mergeDensities «depth_threshold» «chi2_threshold» «parent_depth» «parent_hash» (getD (now (densities .entry)) (n - 4) nan) (getD (now (densities .entry)) (n - 3) nan) (getD (now (densities .entry)) (n - 2) nan) (getD (now (densities .entry)) (n - 1) nan) ⌝ }
+{
+    merge_densities(
+        parent_depth,
+        parent_hash,
+        depth_threshold,
+        chi2_threshold,
+        densities[n - 4],
+        densities[n - 3],
+        densities[n - 2],
+        densities[n - 1],
+    )
+}
+
+// Row 6.
+fn check_densities(densities: &[f64]) -> Check
+    ensures { λ r. ⌜ r ≡ checkOf (densityRefusal 0 (now (densities .entry))) ⌝ }
+{
+    let mut i = 0;
+    while i < densities.len() {
+        if invalid_density(densities[i]) {
+            return Check::Refused(Refusal::InvalidMapDensity(i));
+        }
+        i += 1;
+    }
+    Check::Passed
+}
+
+// Rows 7, 8 and 9, tried cell by cell, for all cells of a batch.
+fn check_cells(depth: u8, end: u64, hashes: &[u64], batch: &[f64]) -> Check
+    requires { ⌜ (depth ≤ 29) × (length (now hashes) ≡ length (now batch)) ⌝ }
+    ensures { λ r. ⌜ r ≡ checkOf (cellsRefusal invalidDensity depth end 0 (now (hashes .entry)) (now (batch .entry))) ⌝ }
+{
+    let n_hash = n_hash_unchecked(depth);
+    let mut least = end;
+    let mut i = 0;
+    while i < hashes.len() {
+        let hash = hashes[i];
+        if let Check::Refused(refusal) = check_cell(n_hash, least, hash, i) {
+            return Check::Refused(refusal);
+        }
+        if invalid_density(batch[i]) {
+            return Check::Refused(Refusal::InvalidDensity(i));
+        }
+        least = hash + 1;
+        i += 1;
+    }
+    Check::Passed
+}
