@@ -5,28 +5,28 @@ ghost use Prim.Native.Nat.{_<_};
 ghost use lib.ListN.{length, set, replicate};
 ghost use Rattle.merger.specs.Floats.{0·0};
 
-pub fn put_zuniq(free: &mut [u64], zuniq: u64)
+pub(crate) fn put_zuniq(free: &mut [u64], zuniq: u64)
     requires { ⌜ 0 < length (now free) ⌝ }
     ensures { λ _. ⌜ now (free .exit) ≡ set (now (free .entry)) 0 «zuniq» ⌝ }
 {
     free[0] = zuniq;
 }
 
-pub fn put_count(free: &mut [u32], count: u32)
+pub(crate) fn put_count(free: &mut [u32], count: u32)
     requires { ⌜ 0 < length (now free) ⌝ }
     ensures { λ _. ⌜ now (free .exit) ≡ set (now (free .entry)) 0 count ⌝ }
 {
     free[0] = count;
 }
 
-pub fn put_density(free: &mut [f64], density: f64)
+pub(crate) fn put_density(free: &mut [f64], density: f64)
     requires { ⌜ 0 < length (now free) ⌝ }
     ensures { λ _. ⌜ now (free .exit) ≡ set (now (free .entry)) 0 density ⌝ }
 {
     free[0] = density;
 }
 
-pub fn clear_zuniqs(free: &mut [u64])
+pub(crate) fn clear_zuniqs(free: &mut [u64])
     ensures { λ _. ⌜ now (free .exit) ≡ replicate (length (now (free .entry))) 0 ⌝ }
 {
     let mut i = 0;
@@ -36,7 +36,7 @@ pub fn clear_zuniqs(free: &mut [u64])
     }
 }
 
-pub fn clear_counts(free: &mut [u32])
+pub(crate) fn clear_counts(free: &mut [u32])
     ensures { λ _. ⌜ now (free .exit) ≡ replicate (length (now (free .entry))) 0 ⌝ }
 {
     let mut i = 0;
@@ -46,7 +46,7 @@ pub fn clear_counts(free: &mut [u32])
     }
 }
 
-pub fn clear_densities(free: &mut [f64])
+pub(crate) fn clear_densities(free: &mut [f64])
     ensures { λ _. ⌜ now (free .exit) ≡ replicate (length (now (free .entry))) 0·0 ⌝ }
 {
     let mut i = 0;

@@ -23,7 +23,7 @@ use zuniq::refusal::Refusal;
 
 pub mod counts;
 pub mod densities;
-pub mod free;
+mod free;
 
 // Whether a call passes a check.
 pub enum Check {
@@ -32,7 +32,7 @@ pub enum Check {
 }
 
 // Rows 1 to 3 of the table of refusals.
-pub fn check_settings(depth: u8, depth_threshold: u8, chi2_threshold: f64) -> Check
+pub(crate) fn check_settings(depth: u8, depth_threshold: u8, chi2_threshold: f64) -> Check
     ensures { λ r. ⌜ r ≡ checkOf (settingsRefusal depth «depth_threshold» «chi2_threshold») ⌝ }
 {
     if depth == 0 {
@@ -51,7 +51,7 @@ pub fn check_settings(depth: u8, depth_threshold: u8, chi2_threshold: f64) -> Ch
 }
 
 // Row 4.
-pub fn check_lengths(
+pub(crate) fn check_lengths(
     held: usize,
     zuniqs: usize,
     values: usize,
@@ -73,7 +73,7 @@ pub fn check_lengths(
 }
 
 // Row 5.
-pub fn check_map(depth: u8, zuniqs: &[u64]) -> Check
+pub(crate) fn check_map(depth: u8, zuniqs: &[u64]) -> Check
     ensures { λ r. ⌜ r ≡ checkOf (mapRefusal (firstFault 29 depth (now (zuniqs .entry)))) ⌝ }
 {
     match first_fault(depth, zuniqs) {
@@ -83,7 +83,7 @@ pub fn check_map(depth: u8, zuniqs: &[u64]) -> Check
 }
 
 // Row 11.
-pub fn check_space(places: usize, held: usize, batch: usize) -> Check
+pub(crate) fn check_space(places: usize, held: usize, batch: usize) -> Check
     requires { ⌜ held + batch < 2 ^ 64 ⌝ }
     ensures { λ r. ⌜ r ≡ checkOf (spaceRefusal places held batch) ⌝ }
 {
@@ -94,7 +94,7 @@ pub fn check_space(places: usize, held: usize, batch: usize) -> Check
 }
 
 // Where the last entry of a valid map ends, as a hash of the map's depth.
-pub fn end_of_map(depth: u8, zuniqs: &[u64]) -> u64
+pub(crate) fn end_of_map(depth: u8, zuniqs: &[u64]) -> u64
     requires { ⌜ (depth ≤ 29) × ValidMap 29 depth (now zuniqs) ⌝ }
     ensures { λ r. ⌜ r ≡ mapEnd 29 depth (now (zuniqs .entry)) ⌝ }
 {
@@ -109,7 +109,7 @@ pub fn end_of_map(depth: u8, zuniqs: &[u64]) -> u64
 }
 
 // Rows 7 and 8 for one cell: `least` is the smallest hash that is above what stands before it.
-pub fn check_cell(n_hash: u64, least: u64, hash: u64, place: usize) -> Check
+pub(crate) fn check_cell(n_hash: u64, least: u64, hash: u64, place: usize) -> Check
     ensures { λ r. ⌜ r ≡ checkOf (cellRefusal «n_hash» least hash place) ⌝ }
 {
     if hash >= n_hash {
@@ -123,7 +123,7 @@ pub fn check_cell(n_hash: u64, least: u64, hash: u64, place: usize) -> Check
 
 // Whether the last four of n entries are children 0 to 3 of one parent, the last one being the cell
 // given. Most cells are no fourth child: for them one test is all.
-pub fn are_siblings(zuniqs: &[u64], n: usize, depth: u8, hash: u64) -> bool
+pub(crate) fn are_siblings(zuniqs: &[u64], n: usize, depth: u8, hash: u64) -> bool
     requires { ⌜ (n ≤ length (now zuniqs)) × IsZuniqOf 29 (getD (now zuniqs) (n - 1) 0) depth hash ⌝ }
     ensures { λ r. ⌜ r ≡ quadAt 29 n (now (zuniqs .entry)) depth hash ⌝ }
 {

@@ -21,7 +21,7 @@ enum Depth {
     TooLarge,
 }
 
-pub fn line(kind: Kind, numbers: &[u64]) -> Outcome {
+pub(crate) fn line(kind: Kind, numbers: &[u64]) -> Outcome {
     match kind {
         Kind::NHash => n_hash(numbers),
         Kind::ToZuniq => to_zuniq(numbers),

@@ -49,7 +49,7 @@ pub const ROWS: [Row; KINDS] = [
 
 impl Kind {
     // The kind's place in an array with one for each kind.
-    pub fn place(self) -> usize
+    pub(crate) fn place(self) -> usize
         ensures { λ r. ⌜ r < kinds ⌝ }
     {
         match self {
@@ -69,7 +69,7 @@ impl Row {
     }
 
     // Writes the word to standard output.
-    pub fn print(self) {
+    pub(crate) fn print(self) {
         let filled = self.word;
         let end = find(&filled, 0, b' ');
         io::write_all(STDOUT_FILENO, &filled[..end]);
@@ -77,7 +77,7 @@ impl Row {
 }
 
 // The kind that has this word.
-pub fn named_by(word: &[u8]) -> Named {
+pub(crate) fn named_by(word: &[u8]) -> Named {
     for i in 0..KINDS {
         let row = ROWS[i];
         if row.has(word) {

@@ -32,7 +32,7 @@ enum Longer {
 }
 
 // The first position from `at` on that holds `byte`, or the length where none does.
-pub fn find(s: &[u8], at: usize, byte: u8) -> usize
+pub(crate) fn find(s: &[u8], at: usize, byte: u8) -> usize
     requires { ⌜ at ≤ length (now s) ⌝ }
     ensures { λ r. ⌜ at ≤ r ⌝ }
     ensures { λ r. ⌜ Counts r (now (s .entry)) ⌝ }
@@ -46,7 +46,7 @@ pub fn find(s: &[u8], at: usize, byte: u8) -> usize
 }
 
 // Reads a line, given without its LF.
-pub fn read(s: &[u8]) -> Line
+pub(crate) fn read(s: &[u8]) -> Line
     ensures { λ r. ⌜ Counts (r .count) (r .numbers) ⌝ }
 {
     let word_end = find(s, 0, b' ');

@@ -17,7 +17,7 @@ pub struct Tally {
 }
 
 impl Tally {
-    pub fn new() -> Self {
+    pub(crate) fn new() -> Self {
         Self {
             same: [0u64; KINDS],
             different: [0u64; KINDS],
@@ -27,7 +27,7 @@ impl Tally {
     }
 
     // The tally with this line, given by its number.
-    pub fn with(mut self, line: u64, kind: Kind, outcome: Outcome) -> Self {
+    pub(crate) fn with(mut self, line: u64, kind: Kind, outcome: Outcome) -> Self {
         let place = kind.place();
         match outcome {
             Outcome::Same => {
@@ -42,7 +42,7 @@ impl Tally {
         }
     }
 
-    pub fn with_unreadable(mut self, line: u64) -> Self {
+    pub(crate) fn with_unreadable(mut self, line: u64) -> Self {
         self.unreadable = plus(self.unreadable, 1);
         self.with_fault(line)
     }
@@ -56,7 +56,7 @@ impl Tally {
 
     // A line for each kind, the first fault if there is one, and the last line for all kinds:
     // 300 same, 0 different, 0 unreadable
-    pub fn print(self) {
+    pub(crate) fn print(self) {
         self.print_kinds();
         self.print_first();
         let same = self.same;
