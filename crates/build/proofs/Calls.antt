@@ -1,6 +1,6 @@
 -- Demand 3 of the scope, as one claim about the list: after any list of add calls the buffers hold what the accepted batches joined
--- say, and every call was answered as they say. It rests on what a call that is not refused may rely on (`Sound`): the two buffers
--- are of one length, the batch rises from where the held map ends, and there is room.
+-- say, and every call was answered as they say. It rests on what a call that is not refused may rely on (`Sound`): the depth is one
+-- of the type's, the two buffers are of one length, the batch rises from where the held map ends, and there is room.
 use mathlib.Core.Path.{_≡_, refl, ap, _∙_}
 use mathlib.Core.List.{List, [], _∷_, _++_, reverse, reverse-reverse}
 use mathlib.Core.Logic.{inl, inr, ⊎-elim}
@@ -23,7 +23,8 @@ use Rattle.build.proofs.Order.{rises-deeper-iff, defined-map-deeper}
 use Rattle.build.proofs.Buffers.{take-filled, length-filled, held-laid}
 
 -- What a call that is not refused may rely on, over a held map s: zs and vs are the places of the buffers, l the cells.
-pub record Fine {A : Type 0} (K zs vs : ℕ) (s l : List (Entry A)) : Type 0 where
+pub record Fine {A : Type 0} (K D zs vs : ℕ) (s l : List (Entry A)) : Type 0 where
+  pub deep : D ≤ K
   pub same : zs ≡ vs
   pub rises : Rises K (lastEnd K s) (nHash K) l
   pub room : length s + length l ≤ zs
@@ -36,7 +37,7 @@ module _ {A R X : Type 0} (g : Calls A R X) where
   -- Batches that are not refused are fine, over any map of the sky.
   abbrev pub Sound : Type 0
   Sound = (zs vs : ℕ) (s : List (Entry A)) (c : Batch A) → Falls (g .largest) 0 (nHash (g .largest)) s
-      → g .refusal (length s) zs vs (laid (zuniqOf (g .largest)) s) (laid valueOf s) c ≡ none → Fine (g .largest) zs vs s (cells g c)
+      → g .refusal (length s) zs vs (laid (zuniqOf (g .largest)) s) (laid valueOf s) c ≡ none → Fine (g .largest) (g .D) zs vs s (cells g c)
 
 -- The cells of a batch are at its depth.
 batch-depth : {A : Type 0} (D : ℕ) (hs : List ℕ) (vs : List A) (e : Entry A) → Has (batch D hs vs) e → e .depth ≡ D
@@ -46,27 +47,28 @@ batch-depth D (h ∷ hs) [] e m = absurd m
 batch-depth {A} D (h ∷ hs) (v ∷ vs) e (inl q) = ap (λ (c : Entry A). c .depth) q
 batch-depth D (h ∷ hs) (v ∷ vs) e (inr m) = batch-depth D hs vs e m
 
-module _ {A R X : Type 0} (g : Calls A R X) (deep : g .D ≤ g .largest) where
+module _ {A R X : Type 0} (g : Calls A R X) where
   -- The defined map is a map of the sky.
-  map-falls : (l : List (Entry A)) → Rises (g .D) 0 (nHash (g .D)) l → Falls (g .largest) 0 (nHash (g .largest)) (reverse (definedMap (g .accept) (g .D) l))
-  map-falls l r =
+  map-falls : (l : List (Entry A)) → g .D ≤ g .largest → Rises (g .D) 0 (nHash (g .D)) l → Falls (g .largest) 0 (nHash (g .largest)) (reverse (definedMap (g .accept) (g .D) l))
+  map-falls l deep r =
       let m = definedMap (g .accept) (g .largest) l in
       rw (defined-map-deeper (g .D) (g .largest) deep (g .accept) l r)
       (falls-iff-rises (g .largest) 0 (nHash (g .largest)) (reverse m) .1 (rw (reverse-reverse m) (defined-map-rises (g .accept) (g .largest) l)))
 
   -- Fine cells, joined to those whose map is held, rise.
-  fine-rises : (zs vs : ℕ) (l : List (Entry A)) (c : Batch A) → Rises (g .D) 0 (nHash (g .D)) l → Fine (g .largest) zs vs (reverse (definedMap (g .accept) (g .D) l)) (cells g c)
+  fine-rises : (zs vs : ℕ) (l : List (Entry A)) (c : Batch A) → Rises (g .D) 0 (nHash (g .D)) l → Fine (g .largest) (g .D) zs vs (reverse (definedMap (g .accept) (g .D) l)) (cells g c)
       → Rises (g .D) 0 (nHash (g .D)) (l ++ cells g c)
   fine-rises zs vs l c r f =
       let K = g .largest in
-      let low = rises-deeper-iff (g .D) K deep in
-      let t : Rises K 0 (nHash K) (l ++ cells g c) = rises-append-from-map-end (g .accept) K l (cells g c) (low l .0 r .1) (rw (defined-map-deeper (g .D) K deep (g .accept) l r) at (f .rises)) in
+      let low = rises-deeper-iff (g .D) K (f .deep) in
+      let t : Rises K 0 (nHash K) (l ++ cells g c) = rises-append-from-map-end (g .accept) K l (cells g c) (low l .0 r .1) (rw (defined-map-deeper (g .D) K (f .deep) (g .accept) l r) at (f .rises)) in
       low (l ++ cells g c) .1 (λ e m. ⊎-elim (low l .0 r .0 e) (λ k. omega (arith, batch-depth (g .D) (c .hashes) (c .values) e k)) (any-append _ l (cells g c) .0 m), t)
 
   module _ (sound : Sound g) (b : Buffers A) where
     -- the buffers hold the map of the joined batches
     record Holds (j : Option (List (Entry A))) : Type 0 where
       rises : Rises (g .D) 0 (nHash (g .D)) (joinedCells g j)
+      falls : Falls (g .largest) 0 (nHash (g .largest)) (joinedMap g j)
       number : left g b j .number ≡ length (joinedMap g j)
       zuniqs : take (left g b j .number) (left g b j .zuniqs) ≡ laid (zuniqOf (g .largest)) (joinedMap g j)
       values : take (left g b j .number) (left g b j .values) ≡ laid valueOf (joinedMap g j)
@@ -78,18 +80,20 @@ module _ {A R X : Type 0} (g : Calls A R X) (deep : g .D ≤ g .largest) where
     unfolding held readOnto laid
     holds-nothing =
         let n = defined-map-nil (g .accept) (g .D) in
-        record { rises = omega arith; number = rw n; zuniqs = rw n; values = rw n; is = rw n; zs = refl; vs = refl }
+        record { rises = omega arith; falls = rw n (omega arith); number = rw n; zuniqs = rw n; values = rw n; is = rw n; zs = refl; vs = refl }
 
-    holds-map : (l : List (Entry A)) → Rises (g .D) 0 (nHash (g .D)) l → length (joinedMap g (some l)) ≤ length (b .zuniqs) → length (joinedMap g (some l)) ≤ length (b .values) → Holds (some l)
+    holds-map : (l : List (Entry A)) → g .D ≤ g .largest → Rises (g .D) 0 (nHash (g .D)) l → length (joinedMap g (some l)) ≤ length (b .zuniqs) → length (joinedMap g (some l)) ≤ length (b .values) → Holds (some l)
     unfolding filled
-    holds-map l r u v =
+    holds-map l deep r u v =
         let s = joinedMap g (some l) in
+        let f = map-falls l deep r in
         record {
           rises = r;
+          falls = f;
           number = refl;
           zuniqs = take-filled (zuniqOf (g .largest)) 0 (length (b .zuniqs)) s;
           values = take-filled valueOf (g .filler) (length (b .values)) s;
-          is = held-laid (g .largest) s _ _ (λ e m. falls-in-range (g .largest) 0 s e (map-falls l r) m);
+          is = held-laid (g .largest) s _ _ (λ e m. falls-in-range (g .largest) 0 s e f m);
           zs = length-filled (zuniqOf (g .largest)) 0 (length (b .zuniqs)) s u;
           vs = length-filled valueOf (g .filler) (length (b .values)) s v;
         }
@@ -106,11 +110,11 @@ module _ {A R X : Type 0} (g : Calls A R X) (deep : g .D ≤ g .largest) where
     one-call j c (some r) q h = (call-is j c h ∙ rw q, h)
     one-call j c none q h =
         let l = joinedCells g j in
-        let f = sound (length (b .zuniqs)) (length (b .values)) (joinedMap g j) c (map-falls l (h .rises)) q in
+        let f = sound (length (b .zuniqs)) (length (b .values)) (joinedMap g j) c (h .falls) q in
         let r = fine-rises _ _ l c (h .rises) f in
         let e : run (g .accept) (joinedMap g j) (cells g c) ≡ joinedMap g (some (l ++ cells g c)) = run-onto-defined-map (g .accept) (g .D) l (cells g c) (h .rises) r in
         let u : length (joinedMap g (some (l ++ cells g c))) ≤ length (b .zuniqs) = omega (arith, f .room, ap length e, run-length (g .accept) (joinedMap g j) (cells g c)) in
-        (call-is j c h ∙ rw (q, e, h .zs, h .vs), holds-map (l ++ cells g c) r u (omega (arith, f .same, u)))
+        (call-is j c h ∙ rw (q, e, h .zs, h .vs), holds-map (l ++ cells g c) (f .deep) r u (omega (arith, f .same, u)))
 
     -- All calls do.
     calls-from : (cs : List (Batch A)) (j : Option (List (Entry A))) → Holds j → (addCalls g (left g b j) cs ≡ (left g b (joining g b j cs .0), joining g b j cs .1)) × Holds (joining g b j cs .0)

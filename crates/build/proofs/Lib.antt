@@ -20,3 +20,4 @@ pub mod Pushing
 pub mod Ends
 pub mod Accepted
 pub mod DensityCalls
+pub mod Sound
