@@ -1,7 +1,7 @@
 -- Demand 3 of the scope, as one claim about the list: after any list of add calls the buffers hold what the accepted batches joined
 -- say, and every call was answered as they say. It rests on what a call that is not refused may rely on (`Sound`): the depth is one
 -- of the type's, the two buffers are of one length, the batch rises from where the held map ends, and there is room.
-use mathlib.Core.Path.{_≡_, refl, ap, _∙_}
+use mathlib.Core.Path.{_≡_, refl, ap, _∙_, subst}
 use mathlib.Core.List.{List, [], _∷_, _++_, reverse, reverse-reverse}
 use mathlib.Core.Logic.{inl, inr, ⊎-elim}
 use mathlib.Core.Option.{Option, none, some}
@@ -132,3 +132,25 @@ module _ {A R X : Type 0} (g : Calls A R X) where
     -- The joined batches rise, so that all that is known of defined maps is known of theirs.
     pub joined-batches-rise : (cs : List (Batch A)) → Rises (g .D) 0 (nHash (g .D)) (joinedCells g (joining g b none cs .0))
     joined-batches-rise cs = calls-from cs none holds-nothing .1 .rises
+
+    -- Their map is one of the sky.
+    pub joined-map-rises : (cs : List (Batch A)) → Rises (g .largest) 0 (nHash (g .largest)) (definedMap (g .accept) (g .D) (joinedCells g (joining g b none cs .0)))
+    joined-map-rises cs =
+        let m = definedMap (g .accept) (g .D) (joinedCells g (joining g b none cs .0)) in
+        subst (Rises (g .largest) 0 (nHash (g .largest))) (reverse-reverse m) (falls-iff-rises (g .largest) 0 (nHash (g .largest)) (reverse m) .0 (calls-from cs none holds-nothing .1 .falls))
+
+  -- Their cells are at D.
+  joined-from : (zs vs : ℕ) (j : Option (List (Entry A))) (cs : List (Batch A)) → ((e : Entry A) → Has (joinedCells g j) e → e .depth ≡ g .D)
+      → (e : Entry A) → Has (joinedCells g (joinCalls g zs vs j cs .0)) e → e .depth ≡ g .D
+  unfolding joinCalls
+  joined-from zs vs j [] low = low
+  joined-from zs vs j (c ∷ cs) low =
+      joined-by (judge g zs vs j c) (λ k. joined-from zs vs k cs)
+    where
+      joined-by : (o : Option R) → ((k : Option (List (Entry A))) → ((e : Entry A) → Has (joinedCells g k) e → e .depth ≡ g .D) → (e : Entry A) → Has (joinedCells g (joinCalls g zs vs k cs .0)) e → e .depth ≡ g .D)
+          → (e : Entry A) → Has (joinedCells g (joinCalls g zs vs (joinBy g o j c .0) cs .0)) e → e .depth ≡ g .D
+      joined-by (some r) more = more j low
+      joined-by none more = more (some (joinedCells g j ++ cells g c)) (λ e m. ⊎-elim (low e) (batch-depth (g .D) (c .hashes) (c .values) e) (any-append _ (joinedCells g j) (cells g c) .0 m))
+
+  pub joined-batches-depth : (zs vs : ℕ) (cs : List (Batch A)) (e : Entry A) → Has (joinedCells g (joinCalls g zs vs none cs .0)) e → e .depth ≡ g .D
+  joined-batches-depth zs vs cs = joined-from zs vs none cs (λ e m. absurd m)

@@ -21,3 +21,4 @@ pub mod Ends
 pub mod Accepted
 pub mod DensityCalls
 pub mod Sound
+pub mod ValidMaps

@@ -1,0 +1,92 @@
+-- Demand 3 holds of every list of count add calls. Assumes nothing.
+use mathlib.Core.Path.{_≡_, refl, ap, sym, _∙_, subst}
+use mathlib.Core.Bool.{true}
+use mathlib.Core.List.{List, [], _∷_, map, reverse, reverse-reverse}
+use mathlib.Core.Logic.{_↔_, inl, inr, ⊎-elim}
+use mathlib.Core.Option.{Option, none, some}
+use Prim.Native.Nat.{ℕ, _≤_}
+use native.Mathlib.Omega.{arith}
+use lib.Ieee.{Float}
+use lib.ListN.{length, length-reverse}
+use Rattle.mom.specs.Map.{ValidMap}
+use Rattle.zuniq.specs.Cells.{nHash, liesIn}
+use Rattle.zuniq.specs.declared.refusal.Refusal.{Refusal}
+use Rattle.zuniq.proofs.Ranges.{lies-in-self, lies-in-same-depth}
+use Rattle.merger.specs.Merge.{acceptCounts}
+use Rattle.merger.proofs.Accept.{accepted-count-is-sum}
+use Rattle.build.specs.Map.{Entry, definedMap}
+use Rattle.build.specs.Promises.{Any, Has, Rises, Covers, Sums}
+use Rattle.build.specs.Calls.{Buffers, Batch, Answer, Calls, joinedMap, judge, joinBy, joinCalls, left}
+use Rattle.build.specs.Counts.{totalOf, Report, countCalls}
+use Rattle.build.proofs.Entries.{total-reverse}
+use Rattle.build.proofs.Rising.{rises-has}
+use Rattle.build.proofs.Order.{rises-iff-ascends}
+use Rattle.build.proofs.Tops.{defined-map-rises}
+use Rattle.build.proofs.DefinedMap.{defined-map-nil, defined-map-covers, defined-map-counts, no-acceptable-quad-left}
+use Rattle.build.proofs.ValidMaps.{rising-is-valid}
+use Rattle.build.proofs.Calls.{calls-do-as-joined, joined-batches-rise, joined-map-rises, joined-batches-depth}
+use Rattle.build.proofs.Sound.{count-calls-sound}
+use Rattle.claims.specs.Demand3.{lastReport, nothingYet, AddCalls, first, done, due, joinedList, mapOf, Claim}
+
+pub mergers-sum : (M : ℕ) (T : Float) → Sums (acceptCounts M T) (λ n. n)
+mergers-sum M T d h k0 k1 k2 k3 x q = accepted-count-is-sum M T d h k0 k1 k2 k3 x q
+
+-- ---- what is reported
+-- The last report is that of the joined batches.
+report-is-due : (g : Calls ℕ Refusal Report) (zs vs : ℕ) (j : Option (List (Entry ℕ))) (cs : List (Batch ℕ))
+    → lastReport (g .report (joinedMap g j)) (joinCalls g zs vs j cs .1) ≡ g .report (joinedMap g (joinCalls g zs vs j cs .0))
+unfolding joinCalls lastReport
+report-is-due g zs vs j [] = refl
+report-is-due g zs vs j (c ∷ cs) = go (judge g zs vs j c) (λ k. report-is-due g zs vs k cs)
+  where
+    go : (o : Option Refusal) → ((k : Option (List (Entry ℕ))) → lastReport (g .report (joinedMap g k)) (joinCalls g zs vs k cs .1) ≡ g .report (joinedMap g (joinCalls g zs vs k cs .0)))
+        → lastReport (g .report (joinedMap g j)) (joinBy g o j c .1 ∷ joinCalls g zs vs (joinBy g o j c .0) cs .1) ≡ g .report (joinedMap g (joinCalls g zs vs (joinBy g o j c .0) cs .0))
+    go none more = more _
+    go (some r) more = more j
+
+-- ---- the cells covered
+-- Cells of depth D are covered by cells of that depth exactly if they are among them.
+covers-iff-listed : (D h : ℕ) (l : List (Entry ℕ)) → ((e : Entry ℕ) → Has l e → e .depth ≡ D) → Covers l D h ↔ Any (λ c. c .hash ≡ h) l
+covers-iff-listed D h [] low = (λ m. m, λ m. m)
+covers-iff-listed D h (e ∷ l) low =
+    let more = covers-iff-listed D h l (λ c m. low c (inr m)) in
+    let d = low e (inl refl) in
+    (λ m. ⊎-elim (λ i. inl (sym (lies-in-same-depth D h (e .hash) (rw d at i)))) (λ k. inr (more .0 k)) m, λ m. ⊎-elim (λ q. inl (subst (λ (n : ℕ). liesIn D h (e .depth) n ≡ true) (sym q) (rw d (lies-in-self D h)))) (λ k. inr (more .1 k)) m)
+
+-- ---- the claim
+module _ (a : AddCalls) where
+  abbrev g : Calls ℕ Refusal Report
+  g = countCalls (a .D) (a .M) (a .T)
+
+  abbrev rising : Rises (a .D) 0 (nHash (a .D)) (joinedList a)
+  rising = joined-batches-rise g (count-calls-sound (a .D) (a .M) (a .T)) (first a) (a .calls)
+
+  abbrev in-sky : Rises 29 0 (nHash 29) (mapOf a)
+  in-sky = joined-map-rises g (count-calls-sound (a .D) (a .M) (a .T)) (first a) (a .calls)
+
+  pub as-due : done a ≡ (left g (first a) (due a .0), due a .1)
+  as-due = calls-do-as-joined g (count-calls-sound (a .D) (a .M) (a .T)) (first a) (a .calls)
+
+  report-is : lastReport nothingYet (done a .1) ≡ record { entries = length (mapOf a); sum = totalOf (mapOf a) }
+  report-is =
+      let m = mapOf a in
+      let start : joinedMap g none ≡ [] = ap reverse (defined-map-nil (acceptCounts (a .M) (a .T)) (a .D)) in
+      let due-is = report-is-due g (length (a .zuniqs)) (length (a .counts)) none (a .calls) in
+      let last : lastReport nothingYet (due a .1) ≡ g .report (reverse m) = rw start at due-is in
+      ap (λ (t : Buffers ℕ × List (Answer Refusal Report)). lastReport nothingYet (t .1)) as-due ∙ last ∙ (λ i. record { entries = length-reverse m i; sum = total-reverse (λ n. n) m i })
+
+  pub add-calls-claim : Claim a
+  add-calls-claim =
+      let accept = acceptCounts (a .M) (a .T) in
+      record {
+        calls = as-due;
+        valid = rising-is-valid 29 (a .D) (mapOf a) (λ e m. rises-has (a .D) 0 (nHash (a .D)) (mapOf a) e (defined-map-rises accept (a .D) (joinedList a)) m .0) in-sky;
+        rises = rises-iff-ascends 29 (mapOf a) .0 in-sky;
+        covers = λ h.
+            let c = defined-map-covers accept (a .D) (joinedList a) rising (a .D) h (omega arith) in
+            let k = covers-iff-listed (a .D) h (joinedList a) (joined-batches-depth g (length (a .zuniqs)) (length (a .counts)) (a .calls)) in
+            (λ m. k .0 (c .0 m), λ m. c .1 (k .1 m));
+        sums = defined-map-counts accept (a .D) (joinedList a) rising (λ n. n) (mergers-sum (a .M) (a .T));
+        settled = no-acceptable-quad-left accept (a .D) (joinedList a) rising;
+        reported = report-is;
+      }

@@ -1,0 +1,74 @@
+-- Demand 3 of the scope: what is claimed of every list of count add calls with one D, M and T. Said over the definitions that the
+-- contracts of the calls use: `addCall` is what `add_counts` does.
+use mathlib.Core.Path.{_≡_}
+use mathlib.Core.List.{List, [], _∷_, map}
+use mathlib.Core.Logic.{_↔_}
+use mathlib.Core.Option.{Option, none}
+use Prim.Native.Nat.{ℕ}
+use lib.Ieee.{Float}
+use lib.ListN.{length}
+use Rattle.zuniq.specs.declared.refusal.Refusal.{Refusal}
+use Rattle.merger.specs.Merge.{acceptCounts}
+use Rattle.mom.specs.Map.{ValidMap}
+use Rattle.build.specs.Map.{Entry, definedMap}
+use Rattle.build.specs.Stack.{child}
+use Rattle.build.specs.Buffers.{zuniqOf}
+use Rattle.build.specs.Promises.{Any, Has, Covers, Ascends, totalUnder}
+use Rattle.build.specs.Calls.{Buffers, Batch, Answer, addCalls, joinedCells, joinCalls, left}
+use Rattle.build.specs.Counts.{totalOf, Report, countCalls}
+
+-- "the total last reported (0 before any)", with the number of entries
+unfoldable pub lastReport : Report → List (Answer Refusal Report) → Report
+lastReport x [] = x
+lastReport x (Answer.refused r ∷ l) = lastReport x l
+lastReport x (Answer.accepted y ∷ l) = lastReport y l
+
+abbrev pub nothingYet : Report
+nothingYet = record { entries = 0; sum = 0 }
+
+-- "a list of count add calls with one D, M and T": the calls cs, and the first content of the two buffers
+pub record AddCalls : Type 0 where
+  pub D : ℕ
+  pub M : ℕ
+  pub T : Float
+  pub zuniqs : List ℕ
+  pub counts : List ℕ
+  pub calls : List (Batch ℕ)
+
+module _ (a : AddCalls) where
+  -- "The first gets m = 0 and buffers with any content."
+  abbrev pub first : Buffers ℕ
+  first = record { number = 0; zuniqs = a .zuniqs; values = a .counts }
+
+  -- what the calls leave in the buffers, with m, and what they answer
+  abbrev pub done : Buffers ℕ × List (Answer Refusal Report)
+  done = addCalls (countCalls (a .D) (a .M) (a .T)) first (a .calls)
+
+  -- "The joined batches [..] are made from the calls' arguments alone", and with them what each call should answer
+  abbrev pub due : Option (List (Entry ℕ)) × List (Answer Refusal Report)
+  due = joinCalls (countCalls (a .D) (a .M) (a .T)) (length (a .zuniqs)) (length (a .counts)) none (a .calls)
+
+  abbrev pub joinedList : List (Entry ℕ)
+  joinedList = joinedCells (countCalls (a .D) (a .M) (a .T)) (due .0)
+
+  -- "the defined map of the joined batches"
+  abbrev pub mapOf : List (Entry ℕ)
+  mapOf = definedMap (acceptCounts (a .M) (a .T)) (a .D) joinedList
+
+  pub record Claim : Type 0 where
+    -- "A call is refused exactly when, and as, the refusals below say with the defined map of the joined batches as held map"; "After
+    -- the list m is the number of entries, and the buffers hold the defined map with 0 in every place after it or, with no call
+    -- accepted, their first content": every answer, m, and both buffers whole
+    pub calls : done ≡ (left (countCalls (a .D) (a .M) (a .T)) first (due .0), due .1)
+    -- the entries are a valid map: they rise and none overlap
+    pub valid : ValidMap 29 (a .D) (map (zuniqOf 29) mapOf)
+    pub rises : Ascends 29 mapOf
+    -- "The cells covered are the depth-D cells that lie in an entry": exactly those of the accepted batches
+    pub covers : (h : ℕ) → Covers mapOf (a .D) h ↔ Any (λ c. c .hash ≡ h) joinedList
+    -- "the counts under an entry are those of joined cells that lie in it": it holds their sum
+    pub sums : (e : Entry ℕ) → Has mapOf e → e .value ≡ totalUnder (λ n. n) joinedList (e .depth) (e .hash)
+    -- "Siblings are the four children of one parent": no four remain that the merger accepts
+    pub settled : (d h v0 v1 v2 v3 : ℕ) → Has mapOf (child d h 0 v0) → Has mapOf (child d h 1 v1) → Has mapOf (child d h 2 v2) → Has mapOf (child d h 3 v3)
+        → acceptCounts (a .M) (a .T) d h v0 v1 v2 v3 ≡ none
+    -- what was last reported is so: the number of entries, and the sum over all of them
+    pub reported : lastReport nothingYet (done .1) ≡ record { entries = length mapOf; sum = totalOf mapOf }
