@@ -21,6 +21,7 @@ use Rattle.mom.specs.declared.MapCheck.{MapCheck}
 use Rattle.mom.specs.declared.lookup.Containing.{Containing}
 use Rattle.mom.specs.declared.lookup.Run.{Run}
 use Rattle.build.specs.declared.counts.CountsAdded.{CountsAdded}
+use Rattle.build.specs.declared.densities.DensitiesAdded.{DensitiesAdded}
 
 -- the high byte says what the word is, the low 56 bits are the answer or the place
 abbrev pub wordOf : ℕ → ℕ → ℕ
@@ -102,3 +103,7 @@ pub record RunIs (zs : List ℕ) (q old r number : ℕ) : Type 0 where
 -- the number of entries, their total, and both buffers
 unfoldable pub countsAddedWord : CountsAdded × List ℕ × List ℕ → ℕ → ℕ × ℕ × List ℕ × List ℕ
 countsAddedWord t old = elim (t .0) [ CountsAdded.Added entries sum ↦ (wordOf accepted entries, sum, t .1, t .2) | CountsAdded.Refused r ↦ (refusalWord r, old, t .1, t .2) ]
+
+-- the number of entries, and both buffers
+unfoldable pub densitiesAddedWord : DensitiesAdded × List ℕ × List Float → ℕ × List ℕ × List Float
+densitiesAddedWord t = elim (t .0) [ DensitiesAdded.Added entries ↦ (wordOf accepted entries, t .1, t .2) | DensitiesAdded.Refused r ↦ (refusalWord r, t .1, t .2) ]

@@ -5,13 +5,16 @@
 // of the refusal. What does not fit goes through a `&mut` number, which is written on acceptance
 // alone: a refusal touches nothing.
 ghost use mathlib.Core.Path.{_≡_};
-ghost use Rattle.mom_c.specs.Words.{wordOf, refusalWord, cellNumberWord, encodedWord, decodedWord, overlapWord, countMergerWord, densityMergerWord, faultKind, mapCheckWord, ContainingIs, RunIs, countsAddedWord};
+ghost use Rattle.mom_c.specs.Words.{wordOf, refusalWord, cellNumberWord, encodedWord, decodedWord, overlapWord, countMergerWord, densityMergerWord, faultKind, mapCheckWord, ContainingIs, RunIs, countsAddedWord, densitiesAddedWord};
 ghost use Rattle.zuniq.specs.Codec.{cellNumber, encode, decode, overlapTest};
 ghost use Rattle.merger.specs.Merge.{countMerger, densityMerger};
 ghost use Rattle.mom.specs.Map.{mapCheck};
 ghost use Rattle.build.specs.Counts.{addCounts};
+ghost use Rattle.build.specs.Densities.{addDensities};
 use build::counts::CountsAdded;
 use build::counts::add_counts;
+use build::densities::DensitiesAdded;
+use build::densities::add_densities;
 use merger::CountMerge;
 use merger::CountMerger;
 use merger::DensityMerge;
@@ -261,5 +264,34 @@ pub extern "C" fn mom_add_counts(
             word(ACCEPTED, entries as u64)
         }
         CountsAdded::Refused(refusal) => refused(refusal),
+    }
+}
+
+// Adds a batch of densities to a map in two buffers: the number of entries.
+#[no_mangle]
+pub extern "C" fn mom_add_densities(
+    depth: u8,
+    depth_threshold: u8,
+    chi2_threshold: f64,
+    held: usize,
+    zuniqs: &mut [u64],
+    densities: &mut [f64],
+    hashes: &[u64],
+    batch: &[f64],
+) -> u64
+    ensures { λ r. ⌜ (r, now (zuniqs .exit), now (densities .exit)) ≡ densitiesAddedWord (addDensities depth «depth_threshold» «chi2_threshold» held (now (zuniqs .entry)) (now (densities .entry)) (now (hashes .entry)) (now (batch .entry))) ⌝ }
+{
+    match add_densities(
+        depth,
+        depth_threshold,
+        chi2_threshold,
+        held,
+        zuniqs,
+        densities,
+        hashes,
+        batch,
+    ) {
+        DensitiesAdded::Added { entries } => word(ACCEPTED, entries as u64),
+        DensitiesAdded::Refused(refusal) => refused(refusal),
     }
 }
