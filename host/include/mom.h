@@ -1,5 +1,5 @@
 /* The C functions of libmom_c.a: cells of multi-order maps, their zuniqs, the mergers, the map
- * check, lookup and building from counts.
+ * check, lookup and building from counts and from densities.
  *
  * A cell is a depth d, 0 to 29, and a hash h below N(d) = 12 * 4^d (HEALPix, nested). Its zuniq is
  * (2h + 1) * 4^(29 - d), a u64; no other u64 is a valid zuniq. The four cells that it consists of
@@ -49,6 +49,7 @@ extern "C" {
 #define MOM_CHI2_THRESHOLD_IS_NAN 3
 #define MOM_LENGTHS_DIFFER 4
 #define MOM_INVALID_MAP 5
+#define MOM_INVALID_MAP_DENSITY 6
 #define MOM_HASH_OUT_OF_RANGE 7
 #define MOM_CELL_NOT_ABOVE 8
 #define MOM_INVALID_DENSITY 9
@@ -132,6 +133,18 @@ uint64_t mom_add_counts(uint8_t depth, uint8_t depth_threshold, double chi2_thre
                         uint64_t *zuniqs, size_t zl, uint32_t *counts, size_t cl,
                         const uint64_t *hashes, size_t hl, const uint32_t *batch, size_t bl,
                         uint32_t *total);
+
+/* Adds cells of that depth, given by hashes and their densities in batch, to the map in the first
+ * held places of zuniqs and densities, as mom_add_counts does, by the density merger. The value is
+ * the new number of entries; every place after the entries is 0. By a refusal both buffers are left
+ * as they were.
+ * Refuses by 1 to 5 as for counts, dl standing for cl; then by 6: a held density is NaN, infinite or
+ * below 0 (-0 is none of these), the place is the entry; then, cell by cell, by 7 and 8 as for
+ * counts, and by 9: its density is NaN, infinite or below 0, the place is the cell; then by 11:
+ * held + hl is over zl. */
+uint64_t mom_add_densities(uint8_t depth, uint8_t depth_threshold, double chi2_threshold,
+                           size_t held, uint64_t *zuniqs, size_t zl, double *densities, size_t dl,
+                           const uint64_t *hashes, size_t hl, const double *batch, size_t bl);
 
 #ifdef __cplusplus
 }

@@ -32,6 +32,8 @@ int main(void) {
     const uint32_t batch[4] = {1, 2, 4, 4};
     uint64_t zuniqs[5] = {5, 5, 5, 5, 5};
     uint32_t counts[5] = {5, 5, 5, 5, 5}, total = 5;
+    const double sixteens[4] = {16, 16, 16, 16}, nans[1] = {NAN};
+    double densities[5] = {5.5, 5.5, 5.5, 5.5, 5.5};
     const uint64_t faulty[2] = {first, base}, none = 2;
 
     expect(answers(mom_n_hash(30, &n_hash), MOM_DEPTH_OUT_OF_RANGE, 0) && n_hash == 5,
@@ -128,6 +130,34 @@ int main(void) {
                                   &total),
                    MOM_ACCEPTED, 1) && total == 11 && zuniqs[0] == base && counts[0] == 11 &&
            zuniqs[1] == 0 && counts[3] == 0, "adding the fourth");
+
+    /* Densities, to the entry that the counts left and then to none. */
+    expect(answers(mom_add_densities(1, 30, 3.5, 0, zuniqs, 5, densities, 5, hashes, 4, sixteens, 4),
+                   MOM_DEPTH_THRESHOLD_OUT_OF_RANGE, 0), "adding densities, M = 30");
+    expect(answers(mom_add_densities(1, 0, NAN, 0, zuniqs, 5, densities, 5, hashes, 4, sixteens, 4),
+                   MOM_CHI2_THRESHOLD_IS_NAN, 0), "adding densities, T a NaN");
+    expect(answers(mom_add_densities(1, 0, 3.5, 0, zuniqs, 5, densities, 5, hashes, 4, sixteens, 3),
+                   MOM_LENGTHS_DIFFER, 0), "adding a batch of two lengths");
+    expect(answers(mom_add_densities(1, 0, 3.5, 1, zuniqs, 5, densities, 5, hashes, 4, sixteens, 4),
+                   MOM_CELL_NOT_ABOVE, 0), "adding densities of cells that are covered");
+    expect(answers(mom_add_densities(1, 0, 3.5, 0, zuniqs, 5, densities, 5, hashes, 1, nans, 1),
+                   MOM_INVALID_DENSITY, 0), "adding a NaN");
+    expect(answers(mom_add_densities(1, 0, 3.5, 0, zuniqs, 3, densities, 3, hashes, 4, sixteens, 4),
+                   MOM_NO_SPACE, 0) && zuniqs[0] == base && densities[0] == 5.5,
+           "adding densities to too few places");
+    expect(answers(mom_add_densities(1, 0, 3.5, 0, zuniqs, 5, densities, 5, hashes, 3, sixteens, 3),
+                   MOM_ACCEPTED, 3) && zuniqs[2] == 5 * first && densities[2] == 16 &&
+           zuniqs[3] == 0 && densities[4] == 0, "adding three densities");
+    densities[1] = -1;
+    expect(answers(mom_add_densities(1, 0, 3.5, 3, zuniqs, 5, densities, 5, hashes + 3, 1, sixteens,
+                                     1),
+                   MOM_INVALID_MAP_DENSITY, 1) && densities[1] == -1 && zuniqs[3] == 0,
+           "adding to a density below 0");
+    densities[1] = 16;
+    expect(answers(mom_add_densities(1, 0, 3.5, 3, zuniqs, 4, densities, 4, hashes + 3, 1, sixteens,
+                                     1),
+                   MOM_ACCEPTED, 1) && zuniqs[0] == base && densities[0] == 16 && zuniqs[1] == 0 &&
+           densities[3] == 0, "adding the fourth density");
 
     printf("%d passed, %d failed\n", passed, failed);
     return failed > 0;

@@ -72,7 +72,7 @@ pub enum MapCheck {
     Faulty { place: usize, fault: Fault },
 }
 
-/// What an accepted add call leaves: the number of entries, and the sum of their counts.
+/// What an accepted add call of counts leaves: the number of entries, and the sum of their counts.
 #[derive(Clone, Copy, Debug, PartialEq, Eq, Hash)]
 pub struct Added {
     pub entries: usize,
@@ -226,4 +226,37 @@ pub fn add_counts(
     ))?;
     let entries = entries as usize;
     Ok(Added { entries, total })
+}
+
+/// Adds cells of that depth, given by `hashes` and their densities in `batch`, to the map in the
+/// first `held` places of `zuniqs` and `densities`, as [`add_counts`] does, by the density merger.
+/// Answers the number of entries; every place after them is 0. A refused call leaves both buffers as
+/// they were.
+///
+/// Refused by 1 to 5 as for counts; then by 6: a held density is NaN, infinite or below 0 (−0 is
+/// none of these), the place is the entry; then, cell by cell, by 7 and 8 as for counts, and by 9:
+/// its density is NaN, infinite or below 0; then by 11: the buffers have fewer places than held and
+/// batch together.
+#[allow(clippy::too_many_arguments)]
+pub fn add_densities(
+    depth: u8,
+    depth_threshold: u8,
+    chi2_threshold: f64,
+    held: usize,
+    zuniqs: &mut [u64],
+    densities: &mut [f64],
+    hashes: &[u64],
+    batch: &[f64],
+) -> Result<usize, Refusal> {
+    let entries = raw::accepted(raw::add_densities(
+        depth,
+        depth_threshold,
+        chi2_threshold,
+        held,
+        zuniqs,
+        densities,
+        hashes,
+        batch,
+    ))?;
+    Ok(entries as usize)
 }

@@ -53,6 +53,20 @@ unsafe extern "C" {
         bl: usize,
         total: &mut u32,
     ) -> u64;
+    fn mom_add_densities(
+        depth: u8,
+        depth_threshold: u8,
+        chi2_threshold: f64,
+        held: usize,
+        zuniqs: *mut u64,
+        zl: usize,
+        densities: *mut f64,
+        dl: usize,
+        hashes: *const u64,
+        hl: usize,
+        batch: *const f64,
+        bl: usize,
+    ) -> u64;
 }
 
 // A slice passes as its pointer and its length.
@@ -101,6 +115,36 @@ pub fn add_counts(
             batch.as_ptr(),
             batch.len(),
             total,
+        )
+    }
+}
+
+#[allow(clippy::too_many_arguments)]
+pub fn add_densities(
+    depth: u8,
+    depth_threshold: u8,
+    chi2_threshold: f64,
+    held: usize,
+    zuniqs: &mut [u64],
+    densities: &mut [f64],
+    hashes: &[u64],
+    batch: &[f64],
+) -> u64 {
+    // SAFETY: as for counts.
+    unsafe {
+        mom_add_densities(
+            depth,
+            depth_threshold,
+            chi2_threshold,
+            held,
+            zuniqs.as_mut_ptr(),
+            zuniqs.len(),
+            densities.as_mut_ptr(),
+            densities.len(),
+            hashes.as_ptr(),
+            hashes.len(),
+            batch.as_ptr(),
+            batch.len(),
         )
     }
 }
@@ -373,7 +417,7 @@ mod tests {
     }
 
     #[test]
-    fn a_refused_add_call_writes_nothing() {
+    fn refused_counts_write_nothing() {
         let (mut zuniqs, mut counts, mut total) = ([1, 3, 7, 9], [1, u32::MAX - 9, 7, 9], 77);
         let (before, nan) = ((zuniqs, counts), f64::NAN);
         let (deep, hash) = (29, 4u64);
@@ -396,6 +440,35 @@ mod tests {
             let word = add_counts(depth, m, t, held, z, c, hashes, batch, &mut total);
             assert_eq!(word, refused(number, place), "{hashes:?} {batch:?}");
             assert_eq!(((zuniqs, counts), total), (before, 77));
+        }
+    }
+
+    #[test]
+    fn refused_densities_write_nothing() {
+        let held = [1.0, -0.0, -1.0, f64::NAN];
+        let (mut zuniqs, mut densities) = ([1, 3, 7, 9], held);
+        let before = (zuniqs, held.map(f64::to_bits));
+        let (deep, hash, past, nan) = (29, 5u64, 12 << 58, f64::NAN);
+        for (depth, m, t, held, hashes, batch, number, place) in [
+            (0, 30, nan, 5, &[hash][..], &[1.0][..], 1, 0),
+            (30, 30, nan, 5, &[hash], &[1.0], 1, 0),
+            (deep, 30, nan, 5, &[hash], &[1.0], 2, 0),
+            (deep, 29, nan, 5, &[hash], &[1.0], 3, 0),
+            (deep, 29, 1.0, 5, &[hash], &[1.0], 4, 0),
+            (deep, 29, 1.0, 2, &[hash], &[], 4, 0),
+            (28, 0, 1.0, 4, &[0], &[nan], 5, 0),
+            (deep, 0, 1.0, 3, &[past], &[nan], 6, 2),
+            (deep, 0, 1.0, 2, &[hash, past], &[1.0, nan], 7, 1),
+            (deep, 0, 1.0, 2, &[1, past], &[nan, 1.0], 8, 0),
+            (deep, 0, 1.0, 2, &[hash, hash], &[1.0, nan], 8, 1),
+            (deep, 0, 1.0, 2, &[hash, past], &[nan, 1.0], 9, 0),
+            (deep, 0, 1.0, 2, &[3, 4, hash], &[0.0, -0.0, -5e-324], 9, 2),
+            (deep, 0, 1.0, 2, &[3, 4, hash], &[0.0, -0.0, 0.0], 11, 0),
+        ] {
+            let (z, d) = (&mut zuniqs, &mut densities);
+            let word = add_densities(depth, m, t, held, z, d, hashes, batch);
+            assert_eq!(word, refused(number, place), "{hashes:?} {batch:?}");
+            assert_eq!((zuniqs, densities.map(f64::to_bits)), before);
         }
     }
 
