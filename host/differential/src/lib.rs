@@ -1,12 +1,13 @@
 //! Compares the proved functions of libmom_c.a with the original Rust, in one process.
 //!
-//! A kind of comparison is a file in `kinds/` that implements [`compare::Kind`] and a line of
-//! [`kinds::KINDS`].
+//! A kind of comparison is a file in `kinds/` that implements [`compare::Kind`], or a value of
+//! [`lists`], and a line of [`kinds::KINDS`].
 
 pub mod cells;
 pub mod compare;
 pub mod floats;
 pub mod kinds;
+pub mod lists;
 pub mod maps;
 pub mod quads;
 pub mod random;

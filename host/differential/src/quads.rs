@@ -178,7 +178,7 @@ fn count(random: &mut Random) -> u32 {
     power - 1 + random.below(3) as u32
 }
 
-fn around_one(random: &mut Random) -> f64 {
+pub fn around_one(random: &mut Random) -> f64 {
     0.75 + unit(random) / 2.0
 }
 
@@ -251,7 +251,7 @@ fn densities(random: &mut Random, c: f64) -> [f64; 4] {
 
 /// A density: none, subnormal, about the least normal one, huge, about c, some sources of a child,
 /// or any at all.
-fn density(random: &mut Random, c: f64) -> f64 {
+pub fn density(random: &mut Random, c: f64) -> f64 {
     match random.below(10) {
         0 => zero(random),
         1 => f64::from_bits(random.bits() >> 12 >> random.below(52)),
@@ -273,7 +273,7 @@ fn zero(random: &mut Random) -> f64 {
 }
 
 /// Not below 0 and not infinite, as a step from 0 or from the largest f64 would be.
-fn valid(x: f64) -> f64 {
+pub fn valid(x: f64) -> f64 {
     if x < 0.0 {
         -x
     } else {

@@ -6,11 +6,12 @@ use differential::{
     cells::{cells_to, n_hash, Cell, DEPTH_MAX},
     compare::Kind,
     floats::Float,
-    kinds::AddCounts,
+    lists::{Add, Input, Value},
     maps::Map,
     quads::{unit_density, Call, Quad, PARENT_DEPTH_MAX},
     random::Random,
 };
+use mom::Refusal;
 
 const DRAWN: u64 = 200_000;
 
@@ -275,63 +276,121 @@ fn no_map_and_no_query_is_rare() {
     );
 }
 
-/// The steps of add calls, by what the table and the original's building make of them.
-#[test]
-fn no_refusal_and_no_kind_of_building_is_rare() {
-    let mut random = Random::new(9);
-    let steps = (0..DRAWN / 20).flat_map(|_| {
-        let input = AddCounts::random(&mut random).unwrap();
-        let depth = input.depth;
-        let steps = AddCounts::original(&input);
-        steps.into_iter().map(move |(answer, zuniqs, _)| {
-            let entries = answer.map_or(0, |added| added.entries);
-            let cells = zuniqs[..entries].iter().filter_map(|&z| Cell::of_zuniq(z));
-            let cells: Vec<Cell> = cells.collect();
-            (depth, answer, cells, zuniqs.len())
+/// A step of a list of add calls, as the table and the original's building make it.
+struct Step<V> {
+    depth: u8,
+    refusal: Option<Refusal>,
+    entries: Vec<(Cell, V)>,
+    places: usize,
+}
+
+fn drawn_steps<V: Value>(seed: u64) -> impl Iterator<Item = Step<V>> {
+    let mut random = Random::new(seed);
+    (0..DRAWN / 20).flat_map(move |_| {
+        let input = Input::random(&mut random);
+        let steps = Add::<V>::original(&input).into_iter();
+        steps.map(move |(answer, zuniqs, values)| {
+            let places = zuniqs.len();
+            let held = answer.map_or(0, |(entries, _)| entries);
+            let cells = zuniqs.into_iter().take(held).filter_map(Cell::of_zuniq);
+            Step {
+                depth: input.depth,
+                refusal: answer.err(),
+                entries: cells.zip(values).collect(),
+                places,
+            }
         })
-    });
-    type Step = (u8, Result<mom::Added, mom::Refusal>, Vec<Cell>, usize);
-    fn number(step: &Step) -> u8 {
-        step.1.map_or_else(|refusal| refusal.number, |_| 0)
+    })
+}
+
+impl<V: Value> Step<V> {
+    fn is_refused(&self, number: u8) -> bool {
+        self.refusal.is_some_and(|refusal| refusal.number == number)
     }
-    fn is_at(step: &Step, of: u8) -> bool {
-        step.1
-            .is_err_and(|refusal| refusal.number == of && refusal.place > 0)
+
+    fn is_refused_past_0(&self, number: u8) -> bool {
+        self.is_refused(number) && self.refusal.is_some_and(|refusal| refusal.place > 0)
     }
-    fn merges(step: &Step) -> u8 {
-        let least = step.2.iter().map(|cell| cell.depth).min();
-        step.0 - least.unwrap_or(step.0)
+
+    fn merges(&self) -> u8 {
+        let least = self.entries.iter().map(|(cell, _)| cell.depth).min();
+        self.depth - least.unwrap_or(self.depth)
     }
-    fn ends_at(step: &Step, last: bool) -> bool {
-        let cell = if last { step.2.last() } else { step.2.first() };
-        cell.is_some_and(|cell| cell.hash == if last { n_hash(cell.depth) - 1 } else { 0 })
+
+    /// Whether an entry of such a value is there; a merged one.
+    fn merged(&self, is: impl Fn(V) -> bool) -> bool {
+        let mut entries = self.entries.iter();
+        entries.any(|&(cell, value)| cell.depth < self.depth && is(value))
     }
-    assert_none_is_rare(
-        steps,
-        &[
-            ("accepted", |step| number(step) == 0),
-            ("no entries", |step| number(step) == 0 && step.2.is_empty()),
-            ("over 50 entries", |step| step.2.len() > 50),
-            ("one merge deep", |step| merges(step) == 1),
-            ("three merges deep", |step| merges(step) == 3),
-            ("the first cell", |step| ends_at(step, false)),
-            ("the last cell", |step| ends_at(step, true)),
-            ("all places held", |step| {
-                step.2.len() == step.3 && !step.2.is_empty()
+
+    /// What counts and densities have in common.
+    fn classes() -> Vec<Class<Self>> {
+        vec![
+            ("accepted", |step| step.refusal.is_none()),
+            ("no entries", |step| {
+                step.refusal.is_none() && step.entries.is_empty()
             }),
-            ("1", |step| number(step) == 1),
-            ("2", |step| number(step) == 2),
-            ("3", |step| number(step) == 3),
-            ("4", |step| number(step) == 4),
-            ("5", |step| number(step) == 5),
-            ("5 past place 0", |step| is_at(step, 5)),
-            ("7", |step| number(step) == 7),
-            ("7 past place 0", |step| is_at(step, 7)),
-            ("8", |step| number(step) == 8),
-            ("8 past place 0", |step| is_at(step, 8)),
-            ("10", |step| number(step) == 10),
-            ("10 past place 0", |step| is_at(step, 10)),
-            ("11", |step| number(step) == 11),
-        ],
-    );
+            ("over 50 entries", |step| step.entries.len() > 50),
+            ("one merge deep", |step| step.merges() == 1),
+            ("three merges deep", |step| step.merges() == 3),
+            ("the first cell", |step| {
+                step.entries.first().is_some_and(|(cell, _)| cell.hash == 0)
+            }),
+            ("the last cell", |step| {
+                let last = step.entries.last();
+                last.is_some_and(|(cell, _)| cell.hash == n_hash(cell.depth) - 1)
+            }),
+            ("all places held", |step| {
+                step.entries.len() == step.places && step.places > 0
+            }),
+            ("depth 1", |step| step.depth == 1),
+            ("depth 29", |step| step.depth == DEPTH_MAX),
+            ("1", |step| step.is_refused(1)),
+            ("2", |step| step.is_refused(2)),
+            ("3", |step| step.is_refused(3)),
+            ("4", |step| step.is_refused(4)),
+            ("5", |step| step.is_refused(5)),
+            ("5 past place 0", |step| step.is_refused_past_0(5)),
+            ("7", |step| step.is_refused(7)),
+            ("7 past place 0", |step| step.is_refused_past_0(7)),
+            ("8", |step| step.is_refused(8)),
+            ("8 past place 0", |step| step.is_refused_past_0(8)),
+            ("11", |step| step.is_refused(11)),
+        ]
+    }
+}
+
+#[test]
+fn no_refusal_and_no_kind_of_building_is_rare_among_counts() {
+    let mut classes = Step::<u32>::classes();
+    classes.extend([
+        ("10", (|step| step.is_refused(10)) as fn(&Step<u32>) -> bool),
+        ("10 past place 0", |step| step.is_refused_past_0(10)),
+        ("a merged 0", |step| step.merged(|count| count == 0)),
+    ]);
+    assert_none_is_rare(drawn_steps(9), &classes);
+}
+
+#[test]
+fn no_refusal_and_no_kind_of_building_is_rare_among_densities() {
+    let mut classes = Step::<Float>::classes();
+    classes.extend([
+        ("6", (|step| step.is_refused(6)) as fn(&Step<Float>) -> bool),
+        ("6 past place 0", |step| step.is_refused_past_0(6)),
+        ("9", |step| step.is_refused(9)),
+        ("9 past place 0", |step| step.is_refused_past_0(9)),
+        ("a merged 0", |step| step.merged(|m| m == Float(0.0))),
+        ("a merged −0", |step| step.merged(|m| m == Float(-0.0))),
+        ("a merged subnormal", |step| {
+            step.merged(|m| m.0.is_subnormal())
+        }),
+        ("a huge one", |step| {
+            step.entries.iter().any(|(_, m)| m.0 > 1e307)
+        }),
+        ("a merged one above c", |step| {
+            let c = unit_density(step.depth - 1);
+            step.merged(|m| m.0 > c && m.0 < 1000.0 * c)
+        }),
+    ]);
+    assert_none_is_rare(drawn_steps(10), &classes);
 }

@@ -179,10 +179,10 @@ fn no_bad_setting_and_no_bad_length_is_accepted() {
     assert_refused(2, 0, |call| call.m = 30);
     assert_refused(3, 0, |call| call.t = f64::NAN);
     assert_refused(4, 0, |call| call.held = 6);
-    assert_refused(4, 0, |call| drop(call.zuniqs.pop()));
-    assert_refused(4, 0, |call| drop(call.densities.pop()));
-    assert_refused(4, 0, |call| drop(call.hashes.pop()));
-    assert_refused(4, 0, |call| drop(call.batch.pop()));
+    assert_refused(4, 0, |call| call.zuniqs.truncate(4));
+    assert_refused(4, 0, |call| call.densities.truncate(4));
+    assert_refused(4, 0, |call| call.hashes.truncate(2));
+    assert_refused(4, 0, |call| call.batch.truncate(2));
     assert_refused(11, 0, |call| {
         call.zuniqs.pop();
         call.densities.pop();

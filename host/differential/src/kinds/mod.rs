@@ -1,6 +1,7 @@
 //! Every kind of comparison, in the order of the scope's sections.
 
 mod add_counts;
+mod add_densities;
 mod are_overlapping;
 mod check_is_mom;
 mod chi;
@@ -12,9 +13,12 @@ mod get_overlapped_cells;
 mod n_hash;
 mod to_zuniq;
 
-use crate::compare::{compare, Kind, Plan, Report};
+use crate::{
+    compare::{compare, Kind, Plan, Report},
+    floats::Float,
+    lists::Add,
+};
 
-pub use add_counts::AddCounts;
 pub use are_overlapping::AreOverlapping;
 pub use check_is_mom::CheckIsMom;
 pub use chi::{CountChi, DensityChi};
@@ -25,6 +29,9 @@ pub use get_cell_containing::GetCellContaining;
 pub use get_overlapped_cells::GetOverlappedCells;
 pub use n_hash::NHash;
 pub use to_zuniq::ToZuniq;
+
+pub type AddCounts = Add<u32>;
+pub type AddDensities = Add<Float>;
 
 pub struct Entry {
     pub name: &'static str,
@@ -49,6 +56,7 @@ pub static KINDS: &[Entry] = &[
     entry::<DensityChi>(),
     entry::<CheckIsMom>(),
     entry::<AddCounts>(),
+    entry::<AddDensities>(),
     entry::<GetCellContaining>(),
     entry::<GetOverlappedCells>(),
 ];
