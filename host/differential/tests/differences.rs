@@ -380,3 +380,80 @@ fn add_counts_refuses_a_depth_threshold_over_29_and_a_threshold_that_is_nan() {
         assert_refused(setting, &cells, number, 0);
     }
 }
+
+/// What ours makes of one batch of densities, with places enough: a refusal that touches nothing.
+fn assert_densities_refused(
+    (depth, m, t): (u8, u8, f64),
+    cells: &[(u64, f64)],
+    number: u8,
+    place: u64,
+) {
+    let (hashes, batch): (Vec<u64>, Vec<f64>) = cells.iter().copied().unzip();
+    let (mut zuniqs, mut densities) = ([77; 8], [77.0; 8]);
+    let (z, d) = (&mut zuniqs, &mut densities);
+    let answer = mom::add_densities(depth, m, t, 0, z, d, &hashes, &batch);
+    assert_eq!(answer, refused(number, place));
+    assert_eq!((zuniqs, densities), ([77; 8], [77.0; 8]));
+}
+
+/// The original's entries, with the bits of their densities.
+fn original_densities((depth, m, t): (u8, u8, f64), cells: &[(u64, f64)]) -> Vec<(u64, u64)> {
+    let entries = run::build_densities(depth, m, t, cells.iter().copied()).into_iter();
+    entries.map(|(zuniq, m)| (zuniq, m.to_bits())).collect()
+}
+
+fn appended(cells: &[(u64, f64)]) -> Vec<(u64, u64)> {
+    let cells = cells.iter();
+    cells
+        .map(|&(hash, density)| (run::to_zuniq(1, hash), density.to_bits()))
+        .collect()
+}
+
+/// Where the parent depth wraps to 255, the depth of the children wraps to 0 again.
+#[test]
+fn add_densities_refuses_depth_0() {
+    assert_overflows(|| original_densities((0, 0, 3.0), &[]), vec![]);
+    assert_densities_refused((0, 0, 3.0), &[], 1, 0);
+    let cells = [(0, 2.0), (1, 2.0), (2, 2.0), (3, 2.0)];
+    let merged = vec![(1 << 60, 2f64.to_bits())];
+    assert_overflows(|| original_densities((0, 4, 3.0), &cells), merged);
+    assert_densities_refused((0, 4, 3.0), &cells, 1, 0);
+}
+
+#[test]
+fn add_densities_refuses_cells_that_are_out_of_range_or_not_above() {
+    let setting = (1, 0, 3.5);
+    for (cells, number, place) in [
+        (&[(48, 1.0)][..], 7, 0),
+        (&[(0, 1.0), (0, 1.0)], 8, 1),
+        (&[(1, 1.0), (0, 1.0)], 8, 1),
+    ] {
+        assert_eq!(original_densities(setting, cells), appended(cells));
+        assert_densities_refused(setting, cells, number, place);
+    }
+}
+
+/// The original keeps all, as with the mergers alone.
+#[test]
+fn add_densities_refuses_a_depth_threshold_over_29_and_a_threshold_that_is_nan() {
+    let cells = [(0, 1.0), (1, 1.0), (2, 1.0), (3, 1.0)];
+    for (setting, number) in [((1, 30, 3.5), 2), ((1, 0, f64::NAN), 3)] {
+        assert_eq!(original_densities(setting, &cells), appended(&cells));
+        assert_densities_refused(setting, &cells, number, 0);
+    }
+}
+
+/// The original appends any f64, and merges what is below 0.
+#[test]
+fn add_densities_refuses_what_is_nan_infinite_or_below_0() {
+    let setting = (1, 0, 0.0);
+    for faulty in [f64::NAN, f64::INFINITY, f64::NEG_INFINITY, -1.0, -5e-324] {
+        let cells = [(0, faulty)];
+        assert_eq!(original_densities(setting, &cells), appended(&cells));
+        assert_densities_refused(setting, &cells, 9, 0);
+    }
+    let cells = [(0, 0.0), (1, 0.0), (2, 0.0), (3, -1.0)];
+    let merged = [(run::to_zuniq(0, 0), (-0.25f64).to_bits())];
+    assert_eq!(original_densities(setting, &cells), merged);
+    assert_densities_refused(setting, &cells, 9, 3);
+}
