@@ -4,7 +4,7 @@
 
 use crate::{
     floats::{magnitude, near, unit, Float},
-    random::Random,
+    random::{any_of, Random},
 };
 
 pub const PARENT_DEPTH_MAX: u8 = 28;
@@ -94,10 +94,6 @@ fn quads<V: Copy>(parent_depth: u8, values: Vec<V>) -> impl Iterator<Item = Quad
         values: [i / n.pow(3), i / n.pow(2), i / n, i].map(|i| values[i % n]),
         parent_depth,
     })
-}
-
-fn any_of<T: Copy>(random: &mut Random, values: &[T]) -> T {
-    values[random.below(values.len() as u64) as usize]
 }
 
 fn four<T>(random: &mut Random, mut draw: impl FnMut(&mut Random) -> T) -> [T; 4] {

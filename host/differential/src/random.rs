@@ -30,3 +30,8 @@ impl Random {
         self.bits() >> 63 == 0
     }
 }
+
+/// One of the values, which are not none.
+pub fn any_of<T: Copy>(random: &mut Random, values: &[T]) -> T {
+    values[random.below(values.len() as u64) as usize]
+}

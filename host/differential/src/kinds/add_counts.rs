@@ -4,7 +4,7 @@ use mom::Added;
 use oracle::run;
 
 use crate::{
-    lists::{Answer, Arguments, Value},
+    lists::{stretch, Answer, Arguments, Value},
     quads::Quad,
     random::Random,
 };
@@ -62,8 +62,7 @@ impl Value for u32 {
         let mut counts = Vec::new();
         while counts.len() < len {
             let value = random.below(largest + 1) as u32;
-            let longest = [2, 8, 64, 300][random.below(4) as usize];
-            let stretch = 1 + random.below(longest);
+            let stretch = stretch(random);
             counts.extend((0..stretch).map(|_| value));
         }
         counts.truncate(len);

@@ -4,7 +4,7 @@ use oracle::run;
 
 use crate::{
     floats::{near, Float},
-    lists::{Answer, Arguments, Value},
+    lists::{stretch, Answer, Arguments, Value},
     quads::{around_one, density, unit_density, valid, Quad},
     random::Random,
 };
@@ -65,8 +65,7 @@ impl Value for Float {
                 false => random.below(depth as u64) as u8,
             };
             let value = density(random, unit_density(parent));
-            let longest = [2, 8, 64, 300][random.below(4) as usize];
-            let stretch = 1 + random.below(longest);
+            let stretch = stretch(random);
             let about = random.below(4);
             densities.extend((0..stretch).map(|_| match about {
                 0 => valid(near(random, value)),

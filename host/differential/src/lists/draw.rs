@@ -1,0 +1,231 @@
+//! The lists: small ones, and random ones with calls among them that are given faults.
+
+use super::Value;
+use crate::{
+    cells::{n_hash, DEPTH_MAX},
+    floats::Float,
+    random::{any_of, Random},
+};
+
+#[derive(Debug, PartialEq, Eq, PartialOrd, Ord)]
+pub struct Input<V> {
+    pub(super) calls: Vec<Call<V>>,
+    pub depth: u8,
+    /// M
+    pub(super) depth_threshold: u8,
+    /// T
+    pub(super) chi2_threshold: Float,
+    /// How many places the buffers have.
+    pub(super) places: usize,
+    /// What stands in every place before the first call.
+    pub(super) content: u64,
+}
+
+#[derive(Clone, Debug, PartialEq, Eq, PartialOrd, Ord)]
+pub(super) struct Call<V> {
+    /// The faults it is given; none where its batch is the next one.
+    pub(super) faults: Vec<Fault<V>>,
+    /// Whether the buffers are lent only as far as they are needed.
+    pub(super) exactly_full: bool,
+    pub(super) hashes: Vec<u64>,
+    pub(super) batch: Vec<V>,
+}
+
+/// What is changed in a call or, until it is over, in the buffers. A place is taken modulo what there
+/// is.
+#[derive(Clone, Copy, Debug, PartialEq, Eq, PartialOrd, Ord)]
+pub(super) enum Fault<V> {
+    Depth(u8),
+    DepthThreshold(u8),
+    Chi2Threshold,
+    ZuniqsShorter,
+    ValuesShorter,
+    HashesShorter,
+    BatchShorter,
+    HeldPastTheBuffers,
+    HeldOneMore,
+    EntryNone(usize),
+    EntryTooDeep(usize),
+    EntryAgain(usize),
+    HeldValue(usize, V),
+    HashPast(usize, u64),
+    HashNotAbove(usize),
+    BatchValue(usize, V),
+    OnePlaceShort,
+}
+
+impl<V: Value> Fault<V> {
+    fn random(random: &mut Random) -> Self {
+        let place = random.below(256) as usize;
+        let value = any_of(random, V::faulty());
+        match random.below(17) {
+            0 => Fault::Depth([0, 30, 255][place % 3]),
+            1 => Fault::DepthThreshold([30, 255][place % 2]),
+            2 => Fault::Chi2Threshold,
+            3 => Fault::ZuniqsShorter,
+            4 => Fault::ValuesShorter,
+            5 => Fault::HashesShorter,
+            6 => Fault::BatchShorter,
+            7 => Fault::HeldPastTheBuffers,
+            8 => Fault::HeldOneMore,
+            9 => Fault::EntryNone(place),
+            10 => Fault::EntryTooDeep(place),
+            11 => Fault::EntryAgain(place),
+            12 => Fault::HeldValue(place, value),
+            13 => Fault::HashPast(place, [0, 1, u64::MAX >> 8][place % 3]),
+            14 => Fault::HashNotAbove(place),
+            15 => Fault::BatchValue(place, value),
+            _ => Fault::OnePlaceShort,
+        }
+    }
+}
+
+impl<V: Value> Input<V> {
+    /// Depth 1: any of the cells 0 to 7, cut at every point; and depth 2: cells 0 to 15.
+    pub(super) fn small() -> impl Iterator<Item = Self> {
+        let depth_1 = (0..256u32).map(|chosen| {
+            let hashes: Vec<u64> = (0..8).filter(|hash| chosen >> hash & 1 == 1).collect();
+            (1, hashes)
+        });
+        let lists = depth_1.chain([(2, (0..16).collect())]);
+        let settings = [(0, 0.0), (0, 3.5), (1, 3.5), (2, 3.5)];
+        lists.flat_map(move |(depth, hashes)| {
+            (0..=hashes.len()).flat_map(move |cut| {
+                let hashes = hashes.clone();
+                V::small().iter().flat_map(move |&value| {
+                    let hashes = hashes.clone();
+                    settings.map(move |(m, t)| Self::in_two(depth, m, t, &hashes, cut, value))
+                })
+            })
+        })
+    }
+
+    fn in_two(depth: u8, m: u8, t: f64, hashes: &[u64], cut: usize, value: V) -> Self {
+        let call = |hashes: &[u64]| Call {
+            faults: vec![],
+            exactly_full: false,
+            hashes: hashes.to_vec(),
+            batch: vec![value; hashes.len()],
+        };
+        Input {
+            calls: vec![call(&hashes[..cut]), call(&hashes[cut..])],
+            depth,
+            depth_threshold: m,
+            chi2_threshold: Float(t),
+            places: hashes.len() + 1,
+            content: u64::MAX,
+        }
+    }
+
+    pub fn random(random: &mut Random) -> Self {
+        let depth = 1 + random.below(DEPTH_MAX as u64) as u8;
+        let longest = any_of(random, &[8, 32, 100, 300]);
+        let len = random.below(longest);
+        let hashes = hashes(random, depth, len);
+        let values = V::random(random, depth, hashes.len());
+        let depth_threshold = match random.below(4) {
+            0 => random.below(30) as u8,
+            1 => random.below(depth as u64 + 1) as u8,
+            _ => 0,
+        };
+        // Enough for all but now and then, and at times for no more.
+        let places = match random.below(4) {
+            0 => hashes.len(),
+            1 => hashes.len().saturating_sub(random.below(3) as usize),
+            _ => hashes.len() + random.below(20) as usize,
+        };
+        Input {
+            calls: calls(random, &hashes, &values),
+            depth,
+            depth_threshold,
+            chi2_threshold: Float(threshold(random, depth, &values)),
+            places,
+            content: [0, 1, 1 << 58, random.bits()][random.below(4) as usize],
+        }
+    }
+}
+
+/// T at chi of four of the values, usual, or far from all chi.
+fn threshold<V: Value>(random: &mut Random, depth: u8, values: &[V]) -> f64 {
+    match random.below(7) {
+        0 => f64::INFINITY,
+        1 => any_of(random, &[0.0, f64::NEG_INFINITY, f64::MIN_POSITIVE]),
+        2 => 16.266,
+        3 if values.len() >= 4 => {
+            let first = random.below(values.len() as u64 / 4) as usize * 4;
+            let four = [0, 1, 2, 3].map(|child| values[first + child]);
+            let chi2 = V::chi2(four, depth - 1);
+            let t = if random.coin() { chi2 } else { chi2.next_up() };
+            if t.is_nan() {
+                f64::INFINITY
+            } else {
+                t
+            }
+        }
+        _ => V::LEAST_CHI2 + random.below(20_000) as f64 / 1000.0,
+    }
+}
+
+/// How many values in a row are alike.
+pub fn stretch(random: &mut Random) -> u64 {
+    let longest = any_of(random, &[2, 8, 64, 300]);
+    1 + random.below(longest)
+}
+
+/// Rising hashes: most follow each other, from the first cell on, up to the last one, or from a border
+/// of large cells.
+fn hashes(random: &mut Random, depth: u8, len: u64) -> Vec<u64> {
+    let n = n_hash(depth);
+    let border = 2 * random.below(depth as u64 + 1);
+    let mut hash = match random.below(5) {
+        0 => 0,
+        1 | 2 => n - len.min(n),
+        3 => random.below(n),
+        _ => random.below(n) >> border << border,
+    };
+    let gaps = random.coin();
+    let mut hashes = Vec::new();
+    while hash < n && (hashes.len() as u64) < len {
+        hashes.push(hash);
+        hash += match random.below(32) {
+            0 if gaps => 1 + random.below(6),
+            1 if gaps => 1 + random.below(n - hash),
+            2 if gaps => (1 << border) - hash % (1 << border),
+            _ => 1,
+        };
+    }
+    hashes
+}
+
+/// The cells cut into batches, with faulty calls before each.
+fn calls<V: Value>(random: &mut Random, hashes: &[u64], values: &[V]) -> Vec<Call<V>> {
+    let mut calls = Vec::new();
+    let mut done = 0;
+    loop {
+        let left = hashes.len() - done;
+        let next = match random.below(4) {
+            0 => left,
+            1 => left.min(random.below(4) as usize),
+            _ => random.below(left as u64 + 1) as usize,
+        };
+        let call = Call {
+            faults: vec![],
+            exactly_full: random.below(4) == 0,
+            hashes: hashes[done..done + next].to_vec(),
+            batch: values[done..done + next].to_vec(),
+        };
+        for _ in 0..random.below(3) {
+            let faults = 1 + random.below(5) / 4;
+            let faults = (0..faults).map(|_| Fault::random(random)).collect();
+            calls.push(Call {
+                faults,
+                ..call.clone()
+            });
+        }
+        done += next;
+        calls.push(call);
+        if done == hashes.len() {
+            return calls;
+        }
+    }
+}

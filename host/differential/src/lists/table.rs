@@ -1,0 +1,82 @@
+//! The judge of refusals: the scope's table, for add calls.
+
+use mom::Refusal;
+
+use super::{Arguments, Value};
+use crate::cells::{n_hash, Cell, DEPTH_MAX};
+
+/// The hash of the first cell at `depth` after the last of some entries.
+pub fn end_of(held: &[u64], depth: u8) -> u64 {
+    held.last().map_or(0, |&last| {
+        let cell = Cell::of_zuniq(last).unwrap();
+        (cell.hash + 1) << (2 * (depth - cell.depth))
+    })
+}
+
+impl<V: Value> Arguments<'_, V> {
+    /// What the table says of the call, in its order.
+    pub fn refusal(&self) -> Option<Refusal> {
+        let (number, place) = self.refused_setting().or_else(|| {
+            let held = &self.values[..self.held];
+            self.refused_entry()
+                .or_else(|| self.refused_cell())
+                .or_else(|| V::overflow(held, self.batch).map(|place| (10, place)))
+                .or_else(|| (self.held + self.hashes.len() > self.zuniqs.len()).then_some((11, 0)))
+        })?;
+        let place = place as u64;
+        Some(Refusal { number, place })
+    }
+
+    /// Rows 1 to 4.
+    fn refused_setting(&self) -> Option<(u8, usize)> {
+        let places = self.zuniqs.len();
+        let lengths_differ = places != self.values.len() || self.hashes.len() != self.batch.len();
+        let rows = [
+            (1, self.depth == 0 || self.depth > DEPTH_MAX),
+            (2, self.depth_threshold > DEPTH_MAX),
+            (3, self.chi2_threshold.is_nan()),
+            (4, lengths_differ || self.held > places),
+        ];
+        let (number, _) = rows.into_iter().find(|&(_, refused)| refused)?;
+        Some((number, 0))
+    }
+
+    /// Rows 5 and 6.
+    fn refused_entry(&self) -> Option<(u8, usize)> {
+        let faulty = (0..self.held).find(|&place| !self.is_sound(place));
+        let invalid = || self.values[..self.held].iter().position(|v| v.is_invalid());
+        let faulty = faulty.map(|place| (5, place));
+        faulty.or_else(|| invalid().map(|place| (6, place)))
+    }
+
+    /// Whether an entry is valid and above all of the one before it.
+    fn is_sound(&self, place: usize) -> bool {
+        let Some(cell) = Cell::of_zuniq(self.zuniqs[place]) else {
+            return false;
+        };
+        let before = self.zuniqs[..place].last().copied();
+        cell.depth <= self.depth
+            && before.is_none_or(|before| {
+                let overlaps = Cell::of_zuniq(before).is_some_and(|before| before.overlaps(cell));
+                before < self.zuniqs[place] && !overlaps
+            })
+    }
+
+    /// Rows 7, 8 and 9.
+    fn refused_cell(&self) -> Option<(u8, usize)> {
+        let mut least = end_of(&self.zuniqs[..self.held], self.depth);
+        for (place, (&hash, value)) in self.hashes.iter().zip(self.batch).enumerate() {
+            if hash >= n_hash(self.depth) {
+                return Some((7, place));
+            }
+            if hash < least {
+                return Some((8, place));
+            }
+            if value.is_invalid() {
+                return Some((9, place));
+            }
+            least = hash + 1;
+        }
+        None
+    }
+}
