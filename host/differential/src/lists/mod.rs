@@ -15,7 +15,7 @@ use crate::{compare::Kind, random::Random};
 pub use draw::{stretch, Input};
 pub use replay::replay;
 
-/// What a map holds for each entry: counts (u32) or densities ([`Float`]).
+/// What a map holds for each entry: counts (u32) or densities ([`Float`](crate::floats::Float)).
 pub trait Value: Copy + Debug + Ord + Send + 'static {
     const NAME: &'static str;
     /// What stands in every place after the entries.
@@ -34,11 +34,13 @@ pub trait Value: Copy + Debug + Ord + Send + 'static {
     /// Row 10: the cell of the batch that passes the limit, 0 where the held ones alone do.
     fn overflow(held: &[Self], batch: &[Self]) -> Option<usize>;
 
+    /// The scope's chi. No answer is held to it; it says where to put T.
     fn chi2(values: [Self; 4], parent_depth: u8) -> f64;
 
-    /// Values that have calls refused, if not everywhere.
+    /// Values for which a call is refused, or may be.
     fn faulty() -> &'static [Self];
 
+    /// What the cells of the small lists have, one for all.
     fn small() -> &'static [Self];
 
     /// Values of cells of a depth, in stretches that merge.
