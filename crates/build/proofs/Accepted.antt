@@ -15,9 +15,9 @@ use Rattle.merger.specs.Merge.{acceptCounts}
 use Rattle.merger.proofs.Accept.{accepted-count-is-sum}
 use Rattle.mom.specs.Map.{firstFault, ValidMap}
 use Rattle.build.specs.declared.counts.CountsAdded.{CountsAdded}
-use Rattle.build.specs.Stack.{run}
+use Rattle.build.specs.Map.{Entry}
 use Rattle.build.specs.Buffers.{batch, readOnto, held, filled, zuniqOf, valueOf, zuniqBuffer, valueBuffer}
-use Rattle.build.specs.Calls.{Buffers, Batch, Answer, Calls, cells, addCall}
+use Rattle.build.specs.Calls.{Buffers, Batch, Answer, Calls, cells, answered, addCall}
 use Rattle.build.specs.Standing.{Stands, Added}
 use Rattle.build.specs.Add.{settingsRefusal, lengthsRefusal, mapRefusal, mapEnd, cellsRefusal, sumOf, spaceRefusal}
 use Rattle.build.specs.Counts.{totalOf, never, countsRefusal, Report, countCalls, countsAdded, addCounts}
@@ -108,22 +108,26 @@ module _ {A : Type 0} (K : ℕ) (u : A) (n : ℕ) (zs : List ℕ) (vs : List A) 
   unfolding filled
   values-filled x = rw (held-values K u n zs vs w, held-length K u n zs vs w) refl
 
--- What an accepted call leaves, told by the definition: n entries, and both buffers.
-module _ {A R X : Type 0} (g : Calls A R X) (u : A) (b : Buffers A) (c : Batch A) where
-  pub call-left : g .refusal (b .number) (length (b .zuniqs)) (length (b .values)) (take (b .number) (b .zuniqs)) (take (b .number) (b .values)) c ≡ none
+-- Buffers in which a map s stands in n places, with every place after it cleared, hold it; and the answer tells of it.
+module _ {A R X : Type 0} (g : Calls A R X) (u : A) (b : Buffers A) where
+  pub map-left : (s : List (Entry A)) (n : ℕ) (zs : List ℕ) (vs : List A) (zs′ : List ℕ) (vs′ : List A) → Stands (g .largest) n zs vs → held (g .largest) n zs vs ≡ s
+      → length zs ≡ length (b .zuniqs) → length vs ≡ length (b .values)
+      → zs′ ≡ take n zs ++ replicate (length zs - n) 0 → vs′ ≡ take n vs ++ replicate (length vs - n) (g .filler)
+      → _≡_ {A = Buffers A × Answer R X} (record { number = n; zuniqs = zs′; values = vs′ }, Answer.accepted (g .report (held (g .largest) n zs vs))) (answered g none b s)
+  map-left s n zs vs zs′ vs′ w q lz lv ez ev =
+      let k : n ≡ length s = sym (held-length (g .largest) u n zs vs w) ∙ ap length q in
+      let z : zs′ ≡ zuniqBuffer (g .largest) (length (b .zuniqs)) s = ez ∙ zuniqs-filled (g .largest) u n zs vs w ∙ ap₂ (filled (zuniqOf (g .largest)) 0) lz q in
+      let v : vs′ ≡ valueBuffer (g .filler) (length (b .values)) s = ev ∙ values-filled (g .largest) u n zs vs w (g .filler) ∙ ap₂ (filled valueOf (g .filler)) lv q in
+      λ i. (record { number = k i; zuniqs = z i; values = v i }, Answer.accepted (g .report (q i)))
+
+  -- What an accepted call leaves, told by the definition: n entries, and both buffers.
+  pub call-left : (c : Batch A) → g .refusal (b .number) (length (b .zuniqs)) (length (b .values)) (take (b .number) (b .zuniqs)) (take (b .number) (b .values)) c ≡ none
       → (n : ℕ) (zs : List ℕ) (vs : List A) (zs′ : List ℕ) (vs′ : List A) → Added (g .accept) (g .largest) (b .number) (cells g c) (b .zuniqs) (b .values) n zs vs
       → length zs ≡ length (b .zuniqs) → length vs ≡ length (b .values)
       → zs′ ≡ take n zs ++ replicate (length zs - n) 0 → vs′ ≡ take n vs ++ replicate (length vs - n) (g .filler)
       → _≡_ {A = Buffers A × Answer R X} (record { number = n; zuniqs = zs′; values = vs′ }, Answer.accepted (g .report (held (g .largest) n zs vs))) (addCall g b c)
   unfolding addCall
-  call-left e n zs vs zs′ vs′ w lz lv ez ev =
-      let s = run (g .accept) (held (g .largest) (b .number) (b .zuniqs) (b .values)) (cells g c) in
-      let k : n ≡ length s = sym (held-length (g .largest) u n zs vs (w .stands)) ∙ ap length (w .is) in
-      let z : zs′ ≡ zuniqBuffer (g .largest) (length (b .zuniqs)) s =
-      ez ∙ zuniqs-filled (g .largest) u n zs vs (w .stands) ∙ ap₂ (filled (zuniqOf (g .largest)) 0) lz (w .is) in
-      let v : vs′ ≡ valueBuffer (g .filler) (length (b .values)) s =
-      ev ∙ values-filled (g .largest) u n zs vs (w .stands) (g .filler) ∙ ap₂ (filled valueOf (g .filler)) lv (w .is) in
-      rw e (λ i. (record { number = k i; zuniqs = z i; values = v i }, Answer.accepted (g .report (w .is i))))
+  call-left c e n zs vs zs′ vs′ w lz lv ez ev = rw e (map-left _ n zs vs zs′ vs′ (w .stands) (w .is) lz lv ez ev)
 
 -- The same for counts, with their total.
 pub counts-left : (D M : ℕ) (T : Float) (m : ℕ) (zs vs hs ns : List ℕ) → countsRefusal D M T m (length zs) (length vs) (take m zs) (take m vs) hs ns ≡ none

@@ -139,6 +139,11 @@ module _ {A R X : Type 0} (g : Calls A R X) where
         let m = definedMap (g .accept) (g .D) (joinedCells g (joining g b none cs .0)) in
         subst (Rises (g .largest) 0 (nHash (g .largest))) (reverse-reverse m) (falls-iff-rises (g .largest) 0 (nHash (g .largest)) (reverse m) .0 (calls-from cs none holds-nothing .1 .falls))
 
+    -- It stands in the buffers that the calls leave.
+    pub joined-map-stands : (cs : List (Batch A)) → let j = joining g b none cs .0 in
+        (take (left g b j .number) (left g b j .zuniqs) ≡ laid (zuniqOf (g .largest)) (joinedMap g j)) × (take (left g b j .number) (left g b j .values) ≡ laid valueOf (joinedMap g j))
+    joined-map-stands cs = let h = calls-from cs none holds-nothing .1 in (h .zuniqs, h .values)
+
   -- Their cells are at D.
   joined-from : (zs vs : ℕ) (j : Option (List (Entry A))) (cs : List (Batch A)) → ((e : Entry A) → Has (joinedCells g j) e → e .depth ≡ g .D)
       → (e : Entry A) → Has (joinedCells g (joinCalls g zs vs j cs .0)) e → e .depth ≡ g .D

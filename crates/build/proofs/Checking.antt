@@ -60,11 +60,11 @@ pub or-else-none : (a b : Option Refusal) → orElse a b ≡ none → (a ≡ non
 or-else-none none b e = (refl, e)
 or-else-none (some r) b e = let z : _≡_ {A = ℕ} 0 1 = cc in absurd (omega arith)
 
-refused-if-none : (t : Bool) (r : Refusal) → refusedIf t r ≡ none → t ≡ false
+pub refused-if-none : (t : Bool) (r : Refusal) → refusedIf t r ≡ none → t ≡ false
 refused-if-none true r e = let z : _≡_ {A = ℕ} 0 1 = cc in absurd (omega arith)
 refused-if-none false r e = refl
 
-or-false-both : (a b : Bool) → (a || b) ≡ false → (a ≡ false) × (b ≡ false)
+pub or-false-both : (a b : Bool) → (a || b) ≡ false → (a ≡ false) × (b ≡ false)
 or-false-both true b e = absurd (true≢false e)
 or-false-both false b e = (refl, e)
 

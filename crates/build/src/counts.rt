@@ -163,7 +163,7 @@ fn push_all(
 
 // Appends a cell behind n entries, through the free part of the buffers, and merges what can be.
 // Answers the number of entries.
-fn push(
+pub fn push(
     zuniqs: &mut [u64],
     counts: &mut [u32],
     n: usize,
@@ -274,7 +274,7 @@ fn check_cells(depth: u8, end: u64, hashes: &[u64]) -> Check
 }
 
 // The sum of some counts, or one more than a u32 holds where it is more than that.
-fn capped_sum(counts: &[u32]) -> u64
+pub fn capped_sum(counts: &[u32]) -> u64
     ensures { λ r. ⌜ r ≡ cappedSum (now (counts .entry)) ⌝ }
 {
     let mut sum: u64 = 0;

@@ -151,7 +151,7 @@ fn push_all(
 
 // Appends a cell behind n entries, through the free part of the buffers, and merges what can be.
 // Answers the number of entries.
-fn push(
+pub fn push(
     zuniqs: &mut [u64],
     densities: &mut [f64],
     n: usize,
@@ -238,7 +238,7 @@ fn merge_last(
 }
 
 // Row 6.
-fn check_densities(densities: &[f64]) -> Check
+pub fn check_densities(densities: &[f64]) -> Check
     ensures { λ r. ⌜ r ≡ checkOf (densityRefusal 0 (now (densities .entry))) ⌝ }
 {
     let mut i = 0;

@@ -26,7 +26,7 @@ pub(crate) fn put_density(free: &mut [f64], density: f64)
     free[0] = density;
 }
 
-pub(crate) fn clear_zuniqs(free: &mut [u64])
+pub fn clear_zuniqs(free: &mut [u64])
     ensures { λ _. ⌜ now (free .exit) ≡ replicate (length (now (free .entry))) 0 ⌝ }
 {
     let mut i = 0;
@@ -36,7 +36,7 @@ pub(crate) fn clear_zuniqs(free: &mut [u64])
     }
 }
 
-pub(crate) fn clear_counts(free: &mut [u32])
+pub fn clear_counts(free: &mut [u32])
     ensures { λ _. ⌜ now (free .exit) ≡ replicate (length (now (free .entry))) 0 ⌝ }
 {
     let mut i = 0;
@@ -46,7 +46,7 @@ pub(crate) fn clear_counts(free: &mut [u32])
     }
 }
 
-pub(crate) fn clear_densities(free: &mut [f64])
+pub fn clear_densities(free: &mut [f64])
     ensures { λ _. ⌜ now (free .exit) ≡ replicate (length (now (free .entry))) 0·0 ⌝ }
 {
     let mut i = 0;

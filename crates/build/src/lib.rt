@@ -23,7 +23,7 @@ use zuniq::refusal::Refusal;
 
 pub mod counts;
 pub mod densities;
-mod free;
+pub mod free;
 
 // Whether a call passes a check.
 pub enum Check {
@@ -73,7 +73,7 @@ pub(crate) fn check_lengths(
 }
 
 // Row 5.
-pub(crate) fn check_map(depth: u8, zuniqs: &[u64]) -> Check
+pub fn check_map(depth: u8, zuniqs: &[u64]) -> Check
     ensures { λ r. ⌜ r ≡ checkOf (mapRefusal (firstFault 29 depth (now (zuniqs .entry)))) ⌝ }
 {
     match first_fault(depth, zuniqs) {

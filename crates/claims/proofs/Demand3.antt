@@ -1,32 +1,42 @@
--- Demand 3 holds of every list of count add calls. Assumes nothing.
-use mathlib.Core.Path.{_≡_, refl, ap, sym, _∙_, subst}
+-- Demand 3 holds of every list of count add calls, and of pooling two maps so made. Assumes nothing.
+use mathlib.Core.Path.{_≡_, refl, ap, ap₂, sym, _∙_, subst}
 use mathlib.Core.Bool.{true}
 use mathlib.Core.List.{List, [], _∷_, map, reverse, reverse-reverse}
 use mathlib.Core.Logic.{_↔_, inl, inr, ⊎-elim}
 use mathlib.Core.Option.{Option, none, some}
-use Prim.Native.Nat.{ℕ, _≤_}
+use Prim.Native.Nat.{ℕ, _+_, _≤_, max}
 use native.Mathlib.Omega.{arith}
 use lib.Ieee.{Float}
-use lib.ListN.{length, length-reverse}
-use Rattle.mom.specs.Map.{ValidMap}
+use lib.ListN.{length, take, length-reverse}
+use Rattle.mom.specs.Map.{firstFault}
+use Rattle.mom.proofs.Faults.{no-fault-iff-valid}
 use Rattle.zuniq.specs.Cells.{nHash, liesIn}
 use Rattle.zuniq.specs.declared.refusal.Refusal.{Refusal}
 use Rattle.zuniq.proofs.Ranges.{lies-in-self, lies-in-same-depth}
 use Rattle.merger.specs.Merge.{acceptCounts}
 use Rattle.merger.proofs.Accept.{accepted-count-is-sum}
 use Rattle.build.specs.Map.{Entry, definedMap}
+use Rattle.build.specs.Add.{mapRefusal}
+use Rattle.build.specs.Buffers.{zuniqOf, valueOf, laid, zuniqBuffer, valueBuffer}
 use Rattle.build.specs.Promises.{Any, Has, Rises, Covers, Sums}
 use Rattle.build.specs.Calls.{Buffers, Batch, Answer, Calls, joinedMap, judge, joinBy, joinCalls, left}
 use Rattle.build.specs.Counts.{totalOf, Report, countCalls}
+use Rattle.build.specs.declared.counts.CountsAdded.{CountsAdded}
 use Rattle.build.proofs.Entries.{total-reverse}
-use Rattle.build.proofs.Rising.{rises-has}
-use Rattle.build.proofs.Order.{rises-iff-ascends}
+use Rattle.build.proofs.Rising.{rises-has, rises-in-range}
+use Rattle.build.proofs.Order.{rises-iff-ascends, rises-deeper-iff}
 use Rattle.build.proofs.Tops.{defined-map-rises}
 use Rattle.build.proofs.DefinedMap.{defined-map-nil, defined-map-covers, defined-map-counts, no-acceptable-quad-left}
 use Rattle.build.proofs.ValidMaps.{rising-is-valid}
-use Rattle.build.proofs.Calls.{calls-do-as-joined, joined-batches-rise, joined-map-rises, joined-batches-depth}
+use Rattle.build.proofs.Calls.{calls-do-as-joined, joined-batches-rise, joined-map-rises, joined-map-stands, joined-batches-depth}
 use Rattle.build.proofs.Sound.{count-calls-sound}
-use Rattle.claims.specs.Demand3.{lastReport, nothingYet, AddCalls, first, done, due, joinedList, mapOf, Claim}
+use Rattle.combine.specs.Rules.{definedPool}
+use Rattle.combine.specs.Slices.{entriesOf}
+use Rattle.combine.specs.Pool.{entries, mapsRefusal, poolRefusal, poolOver, poolCounts}
+use Rattle.combine.proofs.Kept.{pool-total}
+use Rattle.combine.proofs.Given.{entries-laid}
+use Rattle.combine.proofs.PoolCall.{pool-call-swapped}
+use Rattle.claims.specs.Demand3.{lastReport, nothingYet, AddCalls, first, done, due, joinedList, mapOf, Claim, given, poolOf, PoolClaim}
 
 pub mergers-sum : (M : ℕ) (T : Float) → Sums (acceptCounts M T) (λ n. n)
 mergers-sum M T d h k0 k1 k2 k3 x q = accepted-count-is-sum M T d h k0 k1 k2 k3 x q
@@ -90,3 +100,51 @@ module _ (a : AddCalls) where
         settled = no-acceptable-quad-left accept (a .D) (joinedList a) rising;
         reported = report-is;
       }
+
+  -- ---- the map that goes into a pool
+  given-stands : (given a .zuniqs ≡ map (zuniqOf 29) (mapOf a)) × (given a .values ≡ map valueOf (mapOf a))
+  unfolding laid
+  given-stands =
+      let w = joined-map-stands g (count-calls-sound (a .D) (a .M) (a .T)) (first a) (a .calls) in
+      let m = reverse-reverse (mapOf a) in (
+        ap (λ (t : Buffers ℕ × List (Answer Refusal Report)). take (t .0 .number) (t .0 .zuniqs)) as-due ∙ w .0 ∙ ap (map (zuniqOf 29)) m,
+        ap (λ (t : Buffers ℕ × List (Answer Refusal Report)). take (t .0 .number) (t .0 .values)) as-due ∙ w .1 ∙ ap (map valueOf) m,
+      )
+
+  pub given-entries : entries (given a) ≡ mapOf a
+  given-entries = ap₂ entriesOf (given-stands .0) (given-stands .1) ∙ entries-laid (mapOf a) (λ e m. rises-in-range 29 0 (mapOf a) e in-sky m)
+
+  pub given-passes : mapRefusal (firstFault 29 (a .D) (given a .zuniqs)) ≡ none
+  unfolding mapRefusal
+  given-passes = rw (given-stands .0, no-fault-iff-valid 29 (a .D) (map (zuniqOf 29) (mapOf a)) .1 (add-calls-claim .valid)) refl
+
+-- ---- pooling two of them
+module _ (a b : AddCalls) (M : ℕ) (T : Float) (zs vs : List ℕ) where
+  maps-pass : (c d : AddCalls) → mapsRefusal (given c) (given d) ≡ none
+  unfolding mapsRefusal
+  maps-pass c d = rw (given-passes c, given-passes d) refl
+
+  pool-is-due : poolRefusal (given a) (given b) M T (length zs) (length vs) ≡ none → let p = poolOf a b M T in
+      poolCounts (given a) (given b) M T zs vs ≡ (CountsAdded.Added (length p) (totalOf (mapOf a) + totalOf (mapOf b)), zuniqBuffer 29 (length zs) p, valueBuffer 0 (length vs) p)
+  unfolding poolCounts poolOver
+  pool-is-due e =
+      let D = max (a .D) (b .D) in
+      let p = poolOf a b M T in
+      let t : totalOf p ≡ totalOf (mapOf a) + totalOf (mapOf b) =
+      total-reverse (λ n. n) (definedPool (acceptCounts M T) D (mapOf a) (mapOf b)) ∙ pool-total D (mapOf a) (mapOf b) (deeper a (omega arith)) (deeper b (omega arith)) (acceptCounts M T) (mergers-sum M T) in
+      rw (e, given-entries a, given-entries b, t) refl
+    where
+      deeper : (c : AddCalls) → c .D ≤ max (a .D) (b .D) → Rises (max (a .D) (b .D)) 0 (nHash (max (a .D) (b .D))) (mapOf c)
+      deeper c u = rises-deeper-iff (c .D) (max (a .D) (b .D)) u (mapOf c) .0 (defined-map-rises (acceptCounts (c .M) (c .T)) (c .D) (joinedList c)) .1
+
+  pool-refused : (x : Refusal) → poolRefusal (given a) (given b) M T (length zs) (length vs) ≡ some x → poolCounts (given a) (given b) M T zs vs ≡ (CountsAdded.Refused x, zs, vs)
+  unfolding poolCounts poolOver
+  pool-refused x e = rw e refl
+
+  pub pool-claim : PoolClaim a b M T zs vs
+  pool-claim = record {
+    maps = maps-pass a b;
+    pooled = pool-is-due;
+    refused = pool-refused;
+    swapped = pool-call-swapped (given a) (given b) M T zs vs (maps-pass a b) (maps-pass b a);
+  }

@@ -1,21 +1,24 @@
--- Demand 3 of the scope: what is claimed of every list of count add calls with one D, M and T. Said over the definitions that the
--- contracts of the calls use: `addCall` is what `add_counts` does.
+-- Demand 3 of the scope: what is claimed of every list of count add calls with one D, M and T, and of pooling two maps so made.
+-- Said over the definitions that the contracts of the calls use: `addCall` is what `add_counts` does, `poolCounts` what `pool` does.
 use mathlib.Core.Path.{_≡_}
-use mathlib.Core.List.{List, [], _∷_, map}
+use mathlib.Core.List.{List, [], _∷_, map, reverse}
 use mathlib.Core.Logic.{_↔_}
-use mathlib.Core.Option.{Option, none}
-use Prim.Native.Nat.{ℕ}
+use mathlib.Core.Option.{Option, none, some}
+use Prim.Native.Nat.{ℕ, _+_, max}
 use lib.Ieee.{Float}
-use lib.ListN.{length}
+use lib.ListN.{length, take}
 use Rattle.zuniq.specs.declared.refusal.Refusal.{Refusal}
 use Rattle.merger.specs.Merge.{acceptCounts}
 use Rattle.mom.specs.Map.{ValidMap}
 use Rattle.build.specs.Map.{Entry, definedMap}
 use Rattle.build.specs.Stack.{child}
-use Rattle.build.specs.Buffers.{zuniqOf}
+use Rattle.build.specs.Buffers.{zuniqOf, zuniqBuffer, valueBuffer}
 use Rattle.build.specs.Promises.{Any, Has, Covers, Ascends, totalUnder}
 use Rattle.build.specs.Calls.{Buffers, Batch, Answer, addCalls, joinedCells, joinCalls, left}
 use Rattle.build.specs.Counts.{totalOf, Report, countCalls}
+use Rattle.build.specs.declared.counts.CountsAdded.{CountsAdded}
+use Rattle.combine.specs.Rules.{definedPool}
+use Rattle.combine.specs.Pool.{Given, mapsRefusal, poolRefusal, poolCounts}
 
 -- "the total last reported (0 before any)", with the number of entries
 unfoldable pub lastReport : Report → List (Answer Refusal Report) → Report
@@ -72,3 +75,24 @@ module _ (a : AddCalls) where
         → acceptCounts (a .M) (a .T) d h v0 v1 v2 v3 ≡ none
     -- what was last reported is so: the number of entries, and the sum over all of them
     pub reported : lastReport nothingYet (done .1) ≡ record { entries = length mapOf; sum = totalOf mapOf }
+
+-- ---- pooling two maps so made
+-- the map that the calls left: "each goes in with its own D"
+abbrev pub given : AddCalls → Given ℕ
+given a = let b = done a .0 in record { depth = a .D; zuniqs = take (b .number) (b .zuniqs); values = take (b .number) (b .values) }
+
+-- the defined pool of the two defined maps, last entry first
+abbrev pub poolOf : AddCalls → AddCalls → ℕ → Float → List (Entry ℕ)
+poolOf a b M T = reverse (definedPool (acceptCounts M T) (max (a .D) (b .D)) (mapOf a) (mapOf b))
+
+-- "The two maps of demand 3 may differ in D, M and T": pooled with any M and T into buffers that held zs and vs
+pub record PoolClaim (a b : AddCalls) (M : ℕ) (T : Float) (zs vs : List ℕ) : Type 0 where
+  -- neither map is refused
+  pub maps : mapsRefusal (given a) (given b) ≡ none
+  -- the answer, if it is not refused, is the defined pool, its total the sum of the two totals, with 0 in every place after it
+  pub pooled : poolRefusal (given a) (given b) M T (length zs) (length vs) ≡ none → let p = poolOf a b M T in
+      poolCounts (given a) (given b) M T zs vs ≡ (CountsAdded.Added (length p) (totalOf (mapOf a) + totalOf (mapOf b)), zuniqBuffer 29 (length zs) p, valueBuffer 0 (length vs) p)
+  -- a refusal leaves the output
+  pub refused : (x : Refusal) → poolRefusal (given a) (given b) M T (length zs) (length vs) ≡ some x → poolCounts (given a) (given b) M T zs vs ≡ (CountsAdded.Refused x, zs, vs)
+  -- "Swapped, with all else handed in alike, they give the same answer and output, a refusal having the same number and place."
+  pub swapped : poolCounts (given b) (given a) M T zs vs ≡ poolCounts (given a) (given b) M T zs vs

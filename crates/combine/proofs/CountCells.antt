@@ -1,0 +1,76 @@
+-- What the functions of the count walk rest on. Assumes nothing.
+use mathlib.Core.Path.{_≡_, ap, sym, subst}
+use mathlib.Core.Bool.{Bool}
+use mathlib.Core.List.{List, [], _∷_, _++_}
+use Prim.Native.Nat.{ℕ, _+_, _≤_, _<_}
+use native.Mathlib.Omega.{arith}
+use lib.Ieee.{Float}
+use lib.ListN.{length}
+use Rattle.zuniq.specs.Cells.{nHash}
+use Rattle.build.specs.Map.{Entry, Merger}
+use Rattle.build.specs.Promises.{Sums}
+use Rattle.build.specs.Counts.{totalOf}
+use Rattle.combine.specs.Overlay.{overlay}
+use Rattle.combine.specs.Rules.{kept, splitCount, poolRule}
+use Rattle.combine.specs.Heads.{At, used, takesLeft, takesRight, InSky, shows, Turned}
+use Rattle.combine.specs.Slices.{entriesOf, Holds, Outcome, Room}
+use Rattle.combine.specs.Counts.{asEntry, sawOf, pooled, poolCells, Keeps}
+use Rattle.combine.specs.declared.Pass.{Pass}
+use Rattle.combine.specs.declared.counts.Dhv.{Dhv}
+use Rattle.combine.specs.declared.counts.LhsRhsBoth.{LhsRhsBoth}
+use Rattle.combine.proofs.Overlay.{overlay-length}
+use Rattle.combine.proofs.Kept.{kept-length, kept-pool-total}
+use Rattle.combine.proofs.Outcomes.{Wrote, wrote-next, total-append, can-count, can-push, wrote-total}
+use Rattle.combine.proofs.Walking.{Walking, Ready, ready-shown, shown-part, shown-in-sky}
+
+abbrev pub blank : Dhv
+blank = record { depth = 0; hash = 0; value = 0 }
+
+-- ---- a cell that is shown
+module _ {lz lv rz rv zs₀ vs₀ zs vs : List ℕ} {pass : Pass} {accept : ℕ → Float → Merger ℕ} {n m : ℕ} {l r : At Dhv} {lp rp : List Dhv}
+    (w : Ready splitCount poolRule asEntry blank lz lv rz rv (Wrote pass accept zs₀ vs₀ n zs vs) l r lp rp m)
+    (s : LhsRhsBoth) (t : Turned asEntry 29 (l .head) (r .head) (shows (sawOf s))) where
+  -- It is counted or pushed, and the heads that it takes are used up.
+  pub shown-kept : {zs′ vs′ : List ℕ} {n′ : ℕ} {tl tr : Bool} (c : Dhv) → asEntry c ≡ pooled s → Outcome pass accept n (asEntry c ∷ []) zs vs n′ zs′ vs′ → length zs′ ≡ length zs → length vs′ ≡ length vs
+      → tl ≡ takesLeft (sawOf s) → tr ≡ takesRight (sawOf s) → Walking splitCount poolRule asEntry blank lz lv rz rv (Wrote pass accept zs₀ vs₀ n′ zs′ vs′) (used tl l) (used tr r) lp rp
+  shown-kept {zs′} {vs′} {n′} {tl} {tr} c e o p q f g =
+      ready-shown w (sawOf s) t (Wrote pass accept zs₀ vs₀ n′ zs′ vs′) f g (λ d k. wrote-next (pooled s ∷ []) k (subst (λ (e : Entry ℕ). Outcome pass accept n (e ∷ []) zs vs n′ zs′ vs′) e o) p q)
+
+module _ {lz lv rz rv zs₀ vs₀ zs vs : List ℕ} {pass : Pass} {accept : ℕ → Float → Merger ℕ} {n m : ℕ} {l r : At Dhv} {lp rp : List Dhv} (h : Holds lz lv) (k : Holds rz rv)
+    (fits : totalOf (entriesOf lz lv) + totalOf (entriesOf rz rv) ≤ 4294967295)
+    (w : Ready splitCount poolRule asEntry blank lz lv rz rv (Wrote pass accept zs₀ vs₀ n zs vs) l r lp rp m)
+    (s : LhsRhsBoth) (t : Turned asEntry 29 (l .head) (r .head) (shows (sawOf s))) where
+  abbrev cells : List (Entry ℕ)
+  cells = kept poolRule (w .walking .done)
+
+  -- All counts that have been kept, with that of the cell, fit.
+  kept-fits : totalOf cells + pooled s .value ≤ 4294967295
+  kept-fits =
+      let p = shown-part w (sawOf s) t in
+      let q = ap totalOf (p .1) in
+      let f = kept-pool-total 29 (entriesOf lz lv) (entriesOf rz rv) (h .rises) (k .rises) in
+      omega (arith, total-append (λ n. n) (cells ++ (pooled s ∷ [])) (p .0), total-append (λ n. n) cells (pooled s ∷ []))
+
+  pub shown-fits : pooled s .value ≤ 4294967295
+  shown-fits = omega (arith, kept-fits)
+
+  -- The cell can be counted or pushed.
+  pub shown-keeps : ((M : ℕ) (T : Float) → Sums (accept M T) (λ n. n)) → Room pass (poolCells lz lv rz rv) zs₀ vs₀ → (c : Dhv) → asEntry c ≡ pooled s → Keeps pass n c zs vs
+  shown-keeps sums room c e = go pass (w .walking .wrote) room
+    where
+      o : List (Entry ℕ)
+      o = shown-part w (sawOf s) t .0
+
+      part : (cells ++ (pooled s ∷ [])) ++ o ≡ poolCells lz lv rz rv
+      part = shown-part w (sawOf s) t .1
+
+      sky : InSky asEntry c
+      sky = subst (λ (e : Entry ℕ). (e .depth ≤ 29) × (e .hash < nHash (e .depth))) (sym e) (shown-in-sky w (sawOf s) t)
+
+      go : (pass : Pass) → Wrote pass accept zs₀ vs₀ n zs vs cells → Room pass (poolCells lz lv rz rv) zs₀ vs₀ → Keeps pass n c zs vs
+      go Pass.Count w room = can-count (pooled s) o (poolCells lz lv rz rv) w part
+          (omega (arith, kept-length poolRule (overlay splitCount 29 (entriesOf lz lv) (entriesOf rz rv)), overlay-length splitCount 29 (entriesOf lz lv) (entriesOf rz rv)))
+      go (Pass.Merge M T) w room =
+          let a = can-push (pooled s) o (poolCells lz lv rz rv) w part room in
+          let v = ap (λ (e : Entry ℕ). e .value) e in
+          (a .0, a .1, a .2, sky, omega (arith, kept-fits, wrote-total (λ n. n) (sums M T) w))

@@ -1,0 +1,16 @@
+pub mod Fits
+pub mod Overlay
+pub mod Swap
+pub mod Turns
+pub mod Walk
+pub mod Kept
+pub mod Heads
+pub mod Sides
+pub mod State
+pub mod Walking
+pub mod Outcomes
+pub mod CountCells
+pub mod Deeper
+pub mod Given
+pub mod PoolCall
+pub mod Checks

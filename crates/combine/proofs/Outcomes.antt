@@ -1,0 +1,76 @@
+-- Counting and merging cells one after the other, over any type of values and any merger. Assumes nothing.
+use mathlib.Core.Path.{_≡_, refl, ap, sym, _∙_}
+use mathlib.Core.List.{List, [], _∷_, _++_}
+use Prim.Native.Nat.{ℕ, _+_, _^_, _≤_, _<_}
+use native.Mathlib.Omega.{arith}
+use lib.Ieee.{Float}
+use lib.ListN.{length, length-append}
+use Rattle.zuniq.specs.Cells.{nHash}
+use Rattle.build.specs.Map.{Entry, Merger}
+use Rattle.build.specs.Stack.{run}
+use Rattle.build.specs.Buffers.{held, readOnto}
+use Rattle.build.specs.Promises.{total, Sums}
+use Rattle.build.specs.Standing.{Stands, Pushed, Added}
+use Rattle.build.proofs.Adding.{run-append, run-total}
+use Rattle.combine.specs.Slices.{Outcome, Room}
+use Rattle.combine.specs.declared.Pass.{Pass}
+
+-- The cells have been counted or merged into buffers that keep their lengths.
+pub record Wrote {A : Type 0} (pass : Pass) (accept : ℕ → Float → Merger A) (zs₀ : List ℕ) (vs₀ : List A) (n : ℕ) (zs : List ℕ) (vs : List A) (cells : List (Entry A)) : Type 0 where
+  pub outcome : Outcome pass accept 0 cells zs₀ vs₀ n zs vs
+  pub zuniqs : length zs ≡ length zs₀
+  pub values : length vs ≡ length vs₀
+
+pub total-append : {B : Type 0} (figure : B → ℕ) (l m : List (Entry B)) → total figure (l ++ m) ≡ total figure l + total figure m
+total-append figure [] m = omega arith
+total-append figure (e ∷ l) m = omega (arith, total-append figure l m)
+
+-- Merging one cell is pushing it.
+pub pushed-one : {A : Type 0} (accept : Merger A) (n : ℕ) (e : Entry A) (zs : List ℕ) (vs : List A) (r : ℕ) (zs′ : List ℕ) (vs′ : List A) → Pushed accept 29 n e zs vs r zs′ vs′ → Added accept 29 n (e ∷ []) zs vs r zs′ vs′
+unfolding run
+pushed-one accept n e zs vs r zs′ vs′ w = record { stands = w .stands; least = w .least; is = w .is }
+
+module _ {A : Type 0} (accept : ℕ → Float → Merger A) where
+  outcome-start : (pass : Pass) (zs : List ℕ) (vs : List A) → Outcome pass accept 0 [] zs vs 0 zs vs
+  unfolding run
+  outcome-start Pass.Count zs vs = (refl, refl, refl)
+  outcome-start (Pass.Merge M T) zs vs = record { stands = record { zuniqs = omega arith; values = omega arith; valid = λ i u. absurd (omega arith) }; least = omega arith; is = refl }
+
+  module _ (n : ℕ) (l m : List (Entry A)) (zs₀ : List ℕ) (vs₀ : List A) (k : ℕ) (zs : List ℕ) (vs : List A) (r : ℕ) (zs′ : List ℕ) (vs′ : List A) where
+    -- Cells behind cells.
+    outcome-next : (pass : Pass) → Outcome pass accept n l zs₀ vs₀ k zs vs → Outcome pass accept k m zs vs r zs′ vs′ → Outcome pass accept n (l ++ m) zs₀ vs₀ r zs′ vs′
+    outcome-next Pass.Count a b = (omega (arith, a .0, b .0, length-append l m), b .1 ∙ a .1, b .2 ∙ a .2)
+    outcome-next (Pass.Merge M T) a b = record {
+      stands = b .stands;
+      least = omega (arith, a .least, b .least, length-append l m);
+      is = b .is ∙ ap (λ s. run (accept M T) s m) (a .is) ∙ sym (run-append (accept M T) (held 29 n zs₀ vs₀) l m);
+    }
+
+  pub wrote-nothing : (pass : Pass) (zs : List ℕ) (vs : List A) → Wrote pass accept zs vs 0 zs vs []
+  wrote-nothing pass zs vs = record { outcome = outcome-start pass zs vs; zuniqs = refl; values = refl }
+
+part-length : {A : Type 0} (cells : List (Entry A)) (e : Entry A) (o all : List (Entry A)) → (cells ++ (e ∷ [])) ++ o ≡ all → length cells + 1 ≤ length all
+part-length cells e o all q = let z = ap length q in omega (arith, length-append (cells ++ (e ∷ [])) o, length-append cells (e ∷ []))
+
+module _ {A : Type 0} {accept : ℕ → Float → Merger A} {zs₀ : List ℕ} {vs₀ : List A} {n : ℕ} {zs : List ℕ} {vs : List A} {cells : List (Entry A)} where
+  pub wrote-next : {pass : Pass} (m : List (Entry A)) {r : ℕ} {zs′ : List ℕ} {vs′ : List A} → Wrote pass accept zs₀ vs₀ n zs vs cells → Outcome pass accept n m zs vs r zs′ vs′ → length zs′ ≡ length zs → length vs′ ≡ length vs
+      → Wrote pass accept zs₀ vs₀ r zs′ vs′ (cells ++ m)
+  wrote-next {pass} m {r} {zs′} {vs′} w o p q = record { outcome = outcome-next accept 0 cells m zs₀ vs₀ n zs vs r zs′ vs′ pass (w .outcome) o; zuniqs = p ∙ w .zuniqs; values = q ∙ w .values }
+
+  module _ (e : Entry A) (o all : List (Entry A)) where
+    -- One cell more can be counted,
+    pub can-count : Wrote Pass.Count accept zs₀ vs₀ n zs vs cells → (cells ++ (e ∷ [])) ++ o ≡ all → length all ≤ nHash 29 → n + 1 < 2 ^ 64
+    unfolding nHash
+    can-count w q u = omega (arith, w .outcome .0, part-length cells e o all q)
+
+    -- or pushed.
+    pub can-push : {M : ℕ} {T : Float} → Wrote (Pass.Merge M T) accept zs₀ vs₀ n zs vs cells → (cells ++ (e ∷ [])) ++ o ≡ all → Room (Pass.Merge M T) all zs₀ vs₀ → Stands 29 n zs vs × (n < length zs) × (n < length vs)
+    can-push w q u =
+        let a = w .outcome in
+        let p = part-length cells e o all q in
+        (a .stands, omega (arith, a .least, w .zuniqs, u .0), omega (arith, a .least, w .values, u .1))
+
+  -- A merger that gives sums keeps the total.
+  pub wrote-total : (figure : A → ℕ) {M : ℕ} {T : Float} → Sums (accept M T) figure → Wrote (Pass.Merge M T) accept zs₀ vs₀ n zs vs cells → total figure (held 29 n zs vs) ≡ total figure cells
+  unfolding held readOnto
+  wrote-total figure {M} {T} sums w = let e = ap (total figure) (w .outcome .is) in omega (arith, run-total (accept M T) figure sums [] cells)

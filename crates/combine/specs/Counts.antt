@@ -1,0 +1,55 @@
+-- Section 5 of the scope: what the types of the count walk stand for, and what its functions promise.
+use mathlib.Core.List.{List}
+use mathlib.Core.Option.{Option, none, some}
+use Prim.Native.Nat.{ℕ, _+_, _^_, _≤_, _<_}
+use lib.ListN.{length}
+use Rattle.build.specs.Map.{Entry, entry}
+use Rattle.build.specs.Buffers.{held}
+use Rattle.build.specs.Counts.{totalOf}
+use Rattle.build.specs.Standing.{Stands}
+use Rattle.combine.specs.Overlay.{overlay}
+use Rattle.combine.specs.Rules.{kept, splitCount, poolRule, pooledCount}
+use Rattle.combine.specs.Heads.{Saw, sawLeft, sawRight, sawBoth, Act, shows, opensLeft, opensRight, ends, At, InSky, shownAs}
+use Rattle.combine.specs.Slices.{entriesOf}
+use Rattle.combine.specs.declared.Pass.{Pass}
+use Rattle.combine.specs.declared.counts.Dhv.{Dhv}
+use Rattle.combine.specs.declared.counts.Head.{Head}
+use Rattle.combine.specs.declared.counts.Side.{Side}
+use Rattle.combine.specs.declared.counts.LhsRhsBoth.{LhsRhsBoth}
+use Rattle.combine.specs.declared.counts.Turn.{Turn}
+
+-- ---- cells, heads and sides
+abbrev pub asEntry : Dhv → Entry ℕ
+asEntry c = entry (c .depth) (c .hash) (c .value)
+
+abbrev pub headOf : Head → Option Dhv
+headOf (Head.Cell a) = some a
+headOf Head.End = none
+
+abbrev pub sideOf : Side → At Dhv
+sideOf s = record { head = headOf (s .head); pending = s .pending; place = s .place; taken = s .taken }
+
+abbrev pub sawOf : LhsRhsBoth → Saw Dhv
+sawOf (LhsRhsBoth.Left a) = sawLeft a
+sawOf (LhsRhsBoth.Right b) = sawRight b
+sawOf (LhsRhsBoth.Both a b) = sawBoth a b
+
+abbrev pub actOf : Turn → Act Dhv
+actOf (Turn.Show s) = shows (sawOf s)
+actOf (Turn.OpenLeft a) = opensLeft a
+actOf (Turn.OpenRight b) = opensRight b
+actOf Turn.Stop = ends
+
+-- ---- the rule
+-- an overlay cell with the count that it is kept with
+abbrev pub pooled : LhsRhsBoth → Entry ℕ
+pooled s = let e = shownAs asEntry (sawOf s) in entry (e .depth) (e .hash) (pooledCount (e .value))
+
+-- the cells that the pool keeps of the overlay, before merging
+abbrev pub poolCells : List ℕ → List ℕ → List ℕ → List ℕ → List (Entry ℕ)
+poolCells lz lv rz rv = kept poolRule (overlay splitCount 29 (entriesOf lz lv) (entriesOf rz rv))
+
+-- What counting, and what merging, asks of a cell that is kept behind n others.
+abbrev pub Keeps : Pass → ℕ → Dhv → List ℕ → List ℕ → Type 0
+Keeps Pass.Count n c zs vs = n + 1 < 2 ^ 64
+Keeps (Pass.Merge M T) n c zs vs = Stands 29 n zs vs × (n < length zs) × (n < length vs) × InSky asEntry c × (c .value + totalOf (held 29 n zs vs) ≤ 4294967295)
