@@ -33,7 +33,9 @@ use zuniq::Overlap;
 use zuniq::Zuniq64;
 use zuniq::refusal::Refusal;
 
-const ACCEPTED: u8 = 0;
+mod combining;
+
+pub(crate) const ACCEPTED: u8 = 0;
 // There is no such cell or entry.
 const NOTHING: u8 = 65;
 // The four children are kept.
@@ -47,13 +49,13 @@ const NOT_ABOVE: u8 = 69;
 
 const OVERLAPPING: u8 = 70;
 
-fn word(kind: u8, low: u64) -> u64
+pub(crate) fn word(kind: u8, low: u64) -> u64
     ensures { λ r. ⌜ r ≡ wordOf kind low ⌝ }
 {
     kind as u64 * 0x100_0000_0000_0000 + low % 0x100_0000_0000_0000
 }
 
-fn refused(refusal: Refusal) -> u64
+pub(crate) fn refused(refusal: Refusal) -> u64
     ensures { λ r. ⌜ r ≡ refusalWord refusal ⌝ }
 {
     word(refusal.number(), refusal.place() as u64)

@@ -1,22 +1,8 @@
 -- `mom_add_counts` meets its contract. Assumes nothing.
-use mathlib.Core.Path.{_≡_, refl, sym, subst}
-use mathlib.Core.List.{List}
-use Prim.Native.Nat.{ℕ}
-use Rattle.zuniq.specs.declared.refusal.Refusal.{Refusal}
-use Rattle.build.specs.declared.counts.CountsAdded.{CountsAdded}
-use Rattle.mom_c.specs.Words.{wordOf, accepted, refusalWord, countsAddedWord}
+use Rattle.mom_c.proofs.Added.{added, not-added}
 use borrow.Author.Needs.{needs}
 use Rattle.mom_c.proofs.mom_add_counts.Statement.{statement}
 use Rattle.mom_c.proofs.mom_add_counts.Tie as tie
-
--- the word of what was added, and of a refusal
-added : (t : CountsAdded × List ℕ × List ℕ) (n sum old : ℕ) (zs vs : List ℕ) → (CountsAdded.Added n sum, zs, vs) ≡ t → (wordOf accepted n, sum, zs, vs) ≡ countsAddedWord t old
-unfolding countsAddedWord
-added t n sum old zs vs e = subst (λ (x : CountsAdded × List ℕ × List ℕ). (wordOf accepted n, sum, zs, vs) ≡ countsAddedWord x old) e refl
-
-not-added : (t : CountsAdded × List ℕ × List ℕ) (r : Refusal) (old : ℕ) (zs vs : List ℕ) → (CountsAdded.Refused r, zs, vs) ≡ t → (refusalWord r, old, zs, vs) ≡ countsAddedWord t old
-unfolding countsAddedWord
-not-added t r old zs vs e = subst (λ (x : CountsAdded × List ℕ × List ℕ). (refusalWord r, old, zs, vs) ≡ countsAddedWord x old) e refl
 
 add-counts-requires : tie.Need-add-counts-requires
 add-counts-requires c κs = search needs

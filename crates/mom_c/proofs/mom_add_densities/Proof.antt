@@ -1,23 +1,8 @@
 -- `mom_add_densities` meets its contract. Assumes nothing.
-use mathlib.Core.Path.{_≡_, refl, subst}
-use mathlib.Core.List.{List}
-use Prim.Native.Nat.{ℕ}
-use lib.Ieee.{Float}
-use Rattle.zuniq.specs.declared.refusal.Refusal.{Refusal}
-use Rattle.build.specs.declared.densities.DensitiesAdded.{DensitiesAdded}
-use Rattle.mom_c.specs.Words.{wordOf, accepted, refusalWord, densitiesAddedWord}
+use Rattle.mom_c.proofs.Added.{densities-added, densities-not-added}
 use borrow.Author.Needs.{needs}
 use Rattle.mom_c.proofs.mom_add_densities.Statement.{statement}
 use Rattle.mom_c.proofs.mom_add_densities.Tie as tie
-
--- the word of what was added, and of a refusal
-added : (t : DensitiesAdded × List ℕ × List Float) (n : ℕ) (zs : List ℕ) (vs : List Float) → (DensitiesAdded.Added n, zs, vs) ≡ t → (wordOf accepted n, zs, vs) ≡ densitiesAddedWord t
-unfolding densitiesAddedWord
-added t n zs vs e = subst (λ (x : DensitiesAdded × List ℕ × List Float). (wordOf accepted n, zs, vs) ≡ densitiesAddedWord x) e refl
-
-not-added : (t : DensitiesAdded × List ℕ × List Float) (r : Refusal) (zs : List ℕ) (vs : List Float) → (DensitiesAdded.Refused r, zs, vs) ≡ t → (refusalWord r, zs, vs) ≡ densitiesAddedWord t
-unfolding densitiesAddedWord
-not-added t r zs vs e = subst (λ (x : DensitiesAdded × List ℕ × List Float). (refusalWord r, zs, vs) ≡ densitiesAddedWord x) e refl
 
 add-densities-requires : tie.Need-add-densities-requires
 add-densities-requires c κs = search needs
@@ -41,7 +26,7 @@ same-length-2 : tie.Need-same-length-2
 same-length-2 c = search needs
 
 returns : tie.Need-returns
-returns c = rw (c .word .ensures) (added _ _ _ _ (rw (c .before .before .entries .given .1) at (c .before .before .before .before .before .before .before .before .add-densities .ensures)))
+returns c = rw (c .word .ensures) (densities-added _ _ _ _ (rw (c .before .before .entries .given .1) at (c .before .before .before .before .before .before .before .before .add-densities .ensures)))
 
 same-length-3 : tie.Need-same-length-3
 same-length-3 c = search needs
@@ -50,7 +35,7 @@ same-length-4 : tie.Need-same-length-4
 same-length-4 c = search needs
 
 returns-2 : tie.Need-returns-2
-returns-2 c = rw (c .refused .ensures) (not-added _ _ _ _ (rw (c .before .before .refusal .given .1) at (c .before .before .before .before .before .before .before .before .add-densities .ensures)))
+returns-2 c = rw (c .refused .ensures) (densities-not-added _ _ _ _ (rw (c .before .before .refusal .given .1) at (c .before .before .before .before .before .before .before .before .add-densities .ensures)))
 
 pub mom-add-densities-spec : {M : Type 1} → statement M
 mom-add-densities-spec =
