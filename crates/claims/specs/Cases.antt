@@ -8,7 +8,7 @@ use lib.Dec.{eqb}
 use lib.IntN.{pos, negsuc}
 use lib.Ieee as Ieee
 use lib.Ieee.{Float, fin, isNan}
-use Rattle.zuniq.specs.Cells.{nHash}
+use Rattle.zuniq.specs.Cells.{nHash, liesIn, overlap}
 use Rattle.zuniq.specs.Codec.{zuniq, encode, hashAt, isZuniqAt, cellUpTo, decode}
 use Rattle.zuniq.specs.declared.Encoded.{Encoded}
 use Rattle.zuniq.specs.declared.Decoded.{Decoded}
@@ -16,8 +16,10 @@ use Rattle.merger.specs.Floats.{0·0}
 use Rattle.merger.specs.Merge.{chiOfCounts, mergeCounts, mergedCount, acceptCounts, countMerger}
 use Rattle.merger.specs.declared.CountMerge.{CountMerge}
 use Rattle.merger.specs.declared.CountMerger.{CountMerger}
-use Rattle.build.specs.Map.{Entry, joined, listed, whole, tops, definedMap}
+use Rattle.build.specs.Map.{Entry, entry, joined, listed, whole, tops, definedMap}
 use Rattle.build.specs.Buffers.{batch}
+use Rattle.combine.specs.Overlay.{someEntry, fits, part, valueIn, overlayIn, overlay}
+use Rattle.combine.specs.Rules.{kept, combined, splitCount, definedPool}
 
 pub every : List Bool → Bool
 every [] = true
@@ -137,7 +139,20 @@ section4 =
     ∷ isMap (definedMap (acceptCounts 0 3·5) 2 []) []
     ∷ []
 
+2·0 : Float
+2·0 = fin false 1 (pos 1)
+
+-- ---- section 5
+pub section5 : List Bool
+unfolding isMap 2·0 3·5 joined listed whole tops definedMap someEntry fits part valueIn overlayIn overlay kept combined splitCount liesIn overlap acceptCounts mergedCount mergeCounts chiOfCounts Ieee.add Ieee.sub Ieee.mul Ieee.div Ieee.ofInt Ieee.lt
+section5 =
+    -- "Pool of (0,0) 10 and (1,1) 3 at T=2: 3, 6, 2, 2"
+    isMap (definedPool (acceptCounts 0 2·0) 1 (entry 0 0 10 ∷ []) (entry 1 1 3 ∷ [])) (1 ∷ 0 ∷ 3 ∷ 1 ∷ 1 ∷ 6 ∷ 1 ∷ 2 ∷ 2 ∷ 1 ∷ 3 ∷ 2 ∷ [])
+    -- "at T=3.5 (0,0) 13"
+    ∷ isMap (definedPool (acceptCounts 0 3·5) 1 (entry 0 0 10 ∷ []) (entry 1 1 3 ∷ [])) (0 ∷ 0 ∷ 13 ∷ [])
+    ∷ []
+
 -- ---- all of them
-pub starred-cases : every (section1 ++ (section2 ++ section4)) ≡ true
-unfolding every section1 section2 section4
+pub starred-cases : every (section1 ++ (section2 ++ (section4 ++ section5))) ≡ true
+unfolding every section1 section2 section4 section5
 starred-cases = refl
