@@ -6,7 +6,7 @@ use mathlib.Core.Logic.{_↔_}
 use mathlib.Core.Option.{Option, none, some}
 use Prim.Native.Nat.{ℕ, _+_, max}
 use lib.Ieee.{Float}
-use lib.ListN.{length, take}
+use lib.ListN.{length, take, drop}
 use Rattle.zuniq.specs.declared.refusal.Refusal.{Refusal}
 use Rattle.merger.specs.Merge.{acceptCounts}
 use Rattle.mom.specs.Map.{ValidMap}
