@@ -1,9 +1,11 @@
 #!/bin/bash
-# Runs the Rust beside the proofs. The gate calls it after `rt staticlib mom_c`.
+# Runs the Rust beside the proofs. The gate calls it after `rt ci`, which builds the program `mombuild`,
+# and `rt staticlib mom_c`.
 #
 #     host/run.sh [SECONDS [SEED]]
 #
-# First what needs the archive alone: the C header and the crate `mom`. Then the live comparison
+# First what needs the archive or the program alone: the C header, the crate `mom`, and the runs of
+# `mombuild` beside a reading of its rules. Then the live comparison
 # with the original Rust, both where its arithmetic wraps (release) and where it panics (checked):
 # the tests of `oracle` and `differential`, and the comparison itself, for SECONDS in all (60) from
 # SEED (1). Last, that the stored answers in crates/replay/stdin are those that the original gives.
@@ -50,6 +52,10 @@ mom_tests() {
     cd mom && cargo test --quiet --no-fail-fast
 }
 
+mombuild_tests() {
+    cd mombuild && cargo test --quiet --no-fail-fast
+}
+
 stored_answers() {
     ./answers.sh > target/answers && cmp target/answers ../crates/replay/stdin &&
         echo "1 passed, 0 failed"
@@ -66,6 +72,7 @@ can_compare() {
 
 part "C header" c_header
 part "mom" mom_tests
+part "mombuild" mombuild_tests
 if reason=$(can_compare); then
     for profile in release checked; do
         part "oracle and differential, $profile" \

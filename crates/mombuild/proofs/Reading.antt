@@ -1,0 +1,76 @@
+-- The laws of the program: what it prints, by the lines of its text. Assumes nothing.
+use mathlib.Core.Path.{_≡_, refl, ap, sym, _∙_}
+use mathlib.Core.Bool.{false}
+use mathlib.Core.List.{List}
+use mathlib.Core.Option.{Option, none, some}
+use Prim.Native.Nat.{ℕ, _≤_, _<_}
+use native.Mathlib.Omega.{arith}
+use lib.IntN.{pos}
+use lib.Ieee as Ieee
+use lib.Ieee.{Float, fin}
+use lib.ListN.{length, take, drop, length-append}
+use lib.Seq.{take-at}
+use borrow.Author.Tests.{lt-ltb, le-ltb}
+use Rattle.merger.specs.Floats.{_⊘_, float}
+use Rattle.mombuild.specs.Text.{lf, position, upTo, past}
+use Rattle.mombuild.specs.Mombuild.{settingsLine, firstSettings, Cells, cells, reading, thousandths, refusedText, mapText, mombuild}
+use Rattle.mombuild.specs.Steps.{cellLines, CellsAre}
+use Rattle.mombuild.specs.declared.read.SettingsLine.{SettingsLine}
+use Rattle.mombuild.specs.declared.read.CellLines.{CellLines}
+
+-- T is divided by the f64 that is 1000.
+pub thousandths-is : (T : ℕ) → float T ⊘ fin false 125 (pos 3) ≡ thousandths T
+unfolding thousandths Ieee.ofInt
+thousandths-is T = refl
+
+-- ---- line 1
+pub unended : (l : List ℕ) → position lf l ≡ length l → refusedText 0 1 ≡ mombuild l
+unfolding mombuild reading firstSettings
+unended l e = rw (le-ltb (position lf l) (length l) (omega arith)) refl
+
+first-is : (l : List ℕ) (k : ℕ) → k ≡ position lf l → k < length l → firstSettings l ≡ settingsLine (take k l)
+unfolding firstSettings upTo
+first-is l k e p = rw (lt-ltb (position lf l) (length l) (omega arith), e) refl
+
+pub no-settings : (l : List ℕ) {k : ℕ} → k ≡ position lf l → k < length l → settingsLine (take k l) ≡ SettingsLine.Unreadable → refusedText 0 1 ≡ mombuild l
+unfolding mombuild reading
+no-settings l {k} e p s = rw (first-is l k e p, s) refl
+
+-- ---- the lines behind it
+is-unreadable : (n : ℕ) (u : Option ℕ) (line : ℕ) → CellLines.Unreadable line ≡ cellLines n u → u ≡ some line
+is-unreadable n none line e = let z : _≡_ {A = ℕ} 0 1 = cc in absurd (omega arith)
+is-unreadable n (some x) line e = cc
+
+is-readable : (m : ℕ) (u : Option ℕ) (n : ℕ) → CellLines.Cells n ≡ cellLines m u → (u ≡ none) × (n ≡ m)
+is-readable m none n e = (refl, cc)
+is-readable m (some x) n e = let z : _≡_ {A = ℕ} 0 1 = cc in absurd (omega arith)
+
+module _ (l : List ℕ) {k : ℕ} (e : k ≡ position lf l) (p : k < length l) {D M T : ℕ} (s : settingsLine (take k l) ≡ SettingsLine.Settings D M T)
+    {r : CellLines} {hs ns hs′ ns′ : List ℕ} (w : CellsAre (cells 2048 2 (past lf l)) r hs ns hs′ ns′) where
+  pub no-cell : {line : ℕ} → r ≡ CellLines.Unreadable line → refusedText 0 line ≡ mombuild l
+  unfolding mombuild reading
+  no-cell {line} q = rw (first-is l k e p, s, is-unreadable _ (cells 2048 2 (past lf l) .unreadable) line (sym q ∙ w .answer)) refl
+
+  -- The cells stand in the first n places of the buffers.
+  n-fits : {n : ℕ} → r ≡ CellLines.Cells n → (n ≡ length (cells 2048 2 (past lf l) .hashes)) × (n ≡ length (cells 2048 2 (past lf l) .counts))
+  n-fits {n} q =
+      let m = is-readable _ (cells 2048 2 (past lf l) .unreadable) n (sym q ∙ w .answer) in
+      (m .1, m .1 ∙ w .paired)
+
+  pub within : {n : ℕ} → r ≡ CellLines.Cells n → (n ≤ length hs′) × (n ≤ length ns′)
+  within {n} q =
+      let c = cells 2048 2 (past lf l) in
+      let f = n-fits q in (
+        omega (arith, f .0, ap length (w .hashes-are), length-append (c .hashes) (drop (length (c .hashes)) hs)),
+        omega (arith, f .1, ap length (w .counts-are), length-append (c .counts) (drop (length (c .counts)) ns)),
+      )
+
+  pub all-cells : {n : ℕ} → r ≡ CellLines.Cells n → {t : Float} → t ≡ thousandths T → mapText D M t (take n hs′) (take n ns′) ≡ mombuild l
+  unfolding mombuild reading
+  all-cells {n} q {t} v =
+      let c = cells 2048 2 (past lf l) in
+      let m = is-readable _ (c .unreadable) n (sym q ∙ w .answer) in
+      let f = n-fits q in
+      let front = ap (take n) (w .hashes-are) ∙ take-at (c .hashes) (drop (length (c .hashes)) hs) n (sym (f .0)) in
+      let back = ap (take n) (w .counts-are) ∙ take-at (c .counts) (drop (length (c .counts)) ns) n (sym (f .1)) in
+      rw (first-is l k e p, s, m .0, front, back, v) refl
