@@ -1,27 +1,25 @@
 -- What the functions of the count walk rest on. Assumes nothing.
-use mathlib.Core.Path.{_≡_, ap, sym, subst}
+use mathlib.Core.Path.{_≡_, refl, ap, subst}
 use mathlib.Core.Bool.{Bool}
 use mathlib.Core.List.{List, [], _∷_, _++_}
-use Prim.Native.Nat.{ℕ, _+_, _≤_, _<_}
+use Prim.Native.Nat.{ℕ, _+_, _≤_}
 use native.Mathlib.Omega.{arith}
 use lib.Ieee.{Float}
 use lib.ListN.{length}
-use Rattle.zuniq.specs.Cells.{nHash}
 use Rattle.build.specs.Map.{Entry, Merger}
 use Rattle.build.specs.Promises.{Sums}
 use Rattle.build.specs.Counts.{totalOf}
-use Rattle.combine.specs.Overlay.{overlay}
 use Rattle.combine.specs.Rules.{kept, splitCount, poolRule}
-use Rattle.combine.specs.Heads.{At, used, takesLeft, takesRight, InSky, shows, Turned}
-use Rattle.combine.specs.Slices.{entriesOf, Holds, Outcome, Room}
-use Rattle.combine.specs.Counts.{asEntry, sawOf, pooled, poolCells, Keeps}
+use Rattle.combine.specs.Heads.{At, used, takesLeft, takesRight, shows, Turned}
+use Rattle.combine.specs.Slices.{entriesOf, Holds, Outcome, Room, CanKeep}
+use Rattle.combine.specs.Counts.{asEntry, sawOf, pooled, poolCells, TotalFits}
 use Rattle.combine.specs.declared.Pass.{Pass}
 use Rattle.combine.specs.declared.counts.Dhv.{Dhv}
 use Rattle.combine.specs.declared.counts.LhsRhsBoth.{LhsRhsBoth}
-use Rattle.combine.proofs.Overlay.{overlay-length}
-use Rattle.combine.proofs.Kept.{kept-length, kept-pool-total}
-use Rattle.combine.proofs.Outcomes.{Wrote, wrote-next, total-append, can-count, can-push, wrote-total}
-use Rattle.combine.proofs.Walking.{Walking, Ready, ready-shown, shown-part, shown-in-sky}
+use Rattle.combine.proofs.Kept.{kept-pool-total}
+use Rattle.combine.proofs.Outcomes.{Wrote, wrote-next, total-append, wrote-total}
+use Rattle.combine.proofs.Shown.{shown-can-keep}
+use Rattle.combine.proofs.Walking.{Walking, Ready, ready-shown, shown-part}
 
 abbrev pub blank : Dhv
 blank = record { depth = 0; hash = 0; value = 0 }
@@ -55,22 +53,9 @@ module _ {lz lv rz rv zs₀ vs₀ zs vs : List ℕ} {pass : Pass} {accept : ℕ 
   shown-fits = omega (arith, kept-fits)
 
   -- The cell can be counted or pushed.
-  pub shown-keeps : ((M : ℕ) (T : Float) → Sums (accept M T) (λ n. n)) → Room pass (poolCells lz lv rz rv) zs₀ vs₀ → (c : Dhv) → asEntry c ≡ pooled s → Keeps pass n c zs vs
-  shown-keeps sums room c e = go pass (w .walking .wrote) room
+  pub shown-keeps : ((M : ℕ) (T : Float) → Sums (accept M T) (λ n. n)) → Room pass (poolCells lz lv rz rv) zs₀ vs₀ → (c : Dhv) → asEntry c ≡ pooled s → CanKeep pass n (asEntry c) zs vs × TotalFits pass n c zs vs
+  shown-keeps sums room c e = (rw e (shown-can-keep w (w .walking .wrote) room (sawOf s) t (pooled s) refl), go pass (w .walking .wrote))
     where
-      o : List (Entry ℕ)
-      o = shown-part w (sawOf s) t .0
-
-      part : (cells ++ (pooled s ∷ [])) ++ o ≡ poolCells lz lv rz rv
-      part = shown-part w (sawOf s) t .1
-
-      sky : InSky asEntry c
-      sky = subst (λ (e : Entry ℕ). (e .depth ≤ 29) × (e .hash < nHash (e .depth))) (sym e) (shown-in-sky w (sawOf s) t)
-
-      go : (pass : Pass) → Wrote pass accept zs₀ vs₀ n zs vs cells → Room pass (poolCells lz lv rz rv) zs₀ vs₀ → Keeps pass n c zs vs
-      go Pass.Count w room = can-count (pooled s) o (poolCells lz lv rz rv) w part
-          (omega (arith, kept-length poolRule (overlay splitCount 29 (entriesOf lz lv) (entriesOf rz rv)), overlay-length splitCount 29 (entriesOf lz lv) (entriesOf rz rv)))
-      go (Pass.Merge M T) w room =
-          let a = can-push (pooled s) o (poolCells lz lv rz rv) w part room in
-          let v = ap (λ (e : Entry ℕ). e .value) e in
-          (a .0, a .1, a .2, sky, omega (arith, kept-fits, wrote-total (λ n. n) (sums M T) w))
+      go : (pass : Pass) → Wrote pass accept zs₀ vs₀ n zs vs cells → TotalFits pass n c zs vs
+      go Pass.Count w = tt
+      go (Pass.Merge M T) w = let v = ap (λ (e : Entry ℕ). e .value) e in omega (arith, kept-fits, wrote-total (λ n. n) (sums M T) w)

@@ -1,6 +1,7 @@
 -- What two heads lead to, by the tests of the code: the hash of the deeper one's ancestor at the other's depth against the
 -- other's hash. Over any type of cells. Assumes nothing.
 use mathlib.Core.Path.{_≡_, refl, sym, _∙_}
+use mathlib.Core.List.{List}
 use mathlib.Core.Option.{Option, none, some}
 use Prim.Native.Nat.{ℕ, suc, _+_, _*_, _/_, _-_, _^_, _≤_, _<_}
 use native.Mathlib.Omega.{arith}
@@ -11,7 +12,7 @@ use Rattle.zuniq.proofs.Basics.{four-pow-pos, four-pow-two}
 use Rattle.zuniq.proofs.Ranges.{lies-in-iff, end-is-next-start, start-le-iff, start-at-depth, child-valid-iff}
 use Rattle.build.specs.Map.{Entry, entry}
 use Rattle.build.specs.Stack.{child}
-use Rattle.combine.specs.Heads.{Act, shows, sawLeft, sawRight, sawBoth, opensLeft, opensRight, Shallow, Turned}
+use Rattle.combine.specs.Heads.{Act, shows, sawLeft, sawRight, sawBoth, opensLeft, opensRight, Shallow, EntryAt, Turned}
 
 module _ (K d h e g : ℕ) (l : d ≤ e) (m : e ≤ K) where
   -- A cell ends before another starts if it is before its ancestor.
@@ -36,6 +37,10 @@ module _ {A C : Type 0} (asEntry : C → Entry A) (K : ℕ) (x y : Option C) whe
 
 pub shallow-head : {A C : Type 0} (asEntry : C → Entry A) (x : Option C) (a : C) → x ≡ some a → Shallow asEntry x → asEntry a .depth ≤ 29
 shallow-head asEntry x a q s = rw q at s
+
+-- What is known of the entry at a place, once it is known what that is.
+pub entry-known : {A C : Type 0} (asEntry : C → Entry A) (u : A) (zs : List ℕ) (vs : List A) (i : ℕ) (x y : Option C) → x ≡ y → EntryAt asEntry u zs vs i x → EntryAt asEntry u zs vs i y
+entry-known asEntry u zs vs i x y q f = rw (← q) f
 
 -- ---- two heads
 module _ {A C : Type 0} (asEntry : C → Entry A) (K : ℕ) (a b : C) where

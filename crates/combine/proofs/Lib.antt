@@ -9,8 +9,10 @@ pub mod Sides
 pub mod State
 pub mod Walking
 pub mod Outcomes
+pub mod Shown
 pub mod CountCells
 pub mod Deeper
 pub mod Given
 pub mod PoolCall
 pub mod Checks
+pub mod DensityCells

@@ -1,7 +1,7 @@
 -- Counting and merging cells one after the other, over any type of values and any merger. Assumes nothing.
 use mathlib.Core.Path.{_≡_, refl, ap, sym, _∙_}
 use mathlib.Core.List.{List, [], _∷_, _++_}
-use Prim.Native.Nat.{ℕ, _+_, _^_, _≤_, _<_}
+use Prim.Native.Nat.{ℕ, _+_, _≤_, _<_}
 use native.Mathlib.Omega.{arith}
 use lib.Ieee.{Float}
 use lib.ListN.{length, length-append}
@@ -10,9 +10,9 @@ use Rattle.build.specs.Map.{Entry, Merger}
 use Rattle.build.specs.Stack.{run}
 use Rattle.build.specs.Buffers.{held, readOnto}
 use Rattle.build.specs.Promises.{total, Sums}
-use Rattle.build.specs.Standing.{Stands, Pushed, Added}
+use Rattle.build.specs.Standing.{Pushed, Added}
 use Rattle.build.proofs.Adding.{run-append, run-total}
-use Rattle.combine.specs.Slices.{Outcome, Room}
+use Rattle.combine.specs.Slices.{Outcome, Room, Standing, CanKeep, Untouched}
 use Rattle.combine.specs.declared.Pass.{Pass}
 
 -- The cells have been counted or merged into buffers that keep their lengths.
@@ -30,11 +30,20 @@ pub pushed-one : {A : Type 0} (accept : Merger A) (n : ℕ) (e : Entry A) (zs : 
 unfolding run
 pushed-one accept n e zs vs r zs′ vs′ w = record { stands = w .stands; least = w .least; is = w .is }
 
+nothing-stands : {A : Type 0} (pass : Pass) (zs : List ℕ) (vs : List A) → Standing pass 0 zs vs
+nothing-stands Pass.Count zs vs = tt
+nothing-stands (Pass.Merge M T) zs vs = record { zuniqs = omega arith; values = omega arith; valid = λ i u. absurd (omega arith) }
+
+pub untouched-same : {A : Type 0} (pass : Pass) (zs : List ℕ) (vs : List A) → Untouched pass zs vs zs vs
+untouched-same Pass.Count zs vs = (refl, refl)
+untouched-same (Pass.Merge M T) zs vs = tt
+
 module _ {A : Type 0} (accept : ℕ → Float → Merger A) where
-  outcome-start : (pass : Pass) (zs : List ℕ) (vs : List A) → Outcome pass accept 0 [] zs vs 0 zs vs
+  -- No cell changes nothing.
+  pub outcome-none : (pass : Pass) (n : ℕ) (zs : List ℕ) (vs : List A) → Standing pass n zs vs → Outcome pass accept n [] zs vs n zs vs
   unfolding run
-  outcome-start Pass.Count zs vs = (refl, refl, refl)
-  outcome-start (Pass.Merge M T) zs vs = record { stands = record { zuniqs = omega arith; values = omega arith; valid = λ i u. absurd (omega arith) }; least = omega arith; is = refl }
+  outcome-none Pass.Count n zs vs s = (omega arith, refl, refl)
+  outcome-none (Pass.Merge M T) n zs vs s = record { stands = s; least = omega arith; is = refl }
 
   module _ (n : ℕ) (l m : List (Entry A)) (zs₀ : List ℕ) (vs₀ : List A) (k : ℕ) (zs : List ℕ) (vs : List A) (r : ℕ) (zs′ : List ℕ) (vs′ : List A) where
     -- Cells behind cells.
@@ -47,7 +56,7 @@ module _ {A : Type 0} (accept : ℕ → Float → Merger A) where
     }
 
   pub wrote-nothing : (pass : Pass) (zs : List ℕ) (vs : List A) → Wrote pass accept zs vs 0 zs vs []
-  wrote-nothing pass zs vs = record { outcome = outcome-start pass zs vs; zuniqs = refl; values = refl }
+  wrote-nothing pass zs vs = record { outcome = outcome-none pass 0 zs vs (nothing-stands pass zs vs); zuniqs = refl; values = refl }
 
 part-length : {A : Type 0} (cells : List (Entry A)) (e : Entry A) (o all : List (Entry A)) → (cells ++ (e ∷ [])) ++ o ≡ all → length cells + 1 ≤ length all
 part-length cells e o all q = let z = ap length q in omega (arith, length-append (cells ++ (e ∷ [])) o, length-append cells (e ∷ []))
@@ -57,20 +66,26 @@ module _ {A : Type 0} {accept : ℕ → Float → Merger A} {zs₀ : List ℕ} {
       → Wrote pass accept zs₀ vs₀ r zs′ vs′ (cells ++ m)
   wrote-next {pass} m {r} {zs′} {vs′} w o p q = record { outcome = outcome-next accept 0 cells m zs₀ vs₀ n zs vs r zs′ vs′ pass (w .outcome) o; zuniqs = p ∙ w .zuniqs; values = q ∙ w .values }
 
-  module _ (e : Entry A) (o all : List (Entry A)) where
-    -- One cell more can be counted,
-    pub can-count : Wrote Pass.Count accept zs₀ vs₀ n zs vs cells → (cells ++ (e ∷ [])) ++ o ≡ all → length all ≤ nHash 29 → n + 1 < 2 ^ 64
-    unfolding nHash
-    can-count w q u = omega (arith, w .outcome .0, part-length cells e o all q)
-
-    -- or pushed.
-    pub can-push : {M : ℕ} {T : Float} → Wrote (Pass.Merge M T) accept zs₀ vs₀ n zs vs cells → (cells ++ (e ∷ [])) ++ o ≡ all → Room (Pass.Merge M T) all zs₀ vs₀ → Stands 29 n zs vs × (n < length zs) × (n < length vs)
-    can-push w q u =
-        let a = w .outcome in
-        let p = part-length cells e o all q in
-        (a .stands, omega (arith, a .least, w .zuniqs, u .0), omega (arith, a .least, w .values, u .1))
+  -- One cell more, of the cells that there is room for, can be kept.
+  pub can-keep : {pass : Pass} (e : Entry A) (o all : List (Entry A)) → Wrote pass accept zs₀ vs₀ n zs vs cells → (cells ++ (e ∷ [])) ++ o ≡ all → length all ≤ nHash 29 → Room pass all zs₀ vs₀
+      → (e .depth ≤ 29) × (e .hash < nHash (e .depth)) → CanKeep pass n e zs vs
+  unfolding nHash
+  can-keep {pass = Pass.Count} e o all w q u room sky = omega (arith, w .outcome .0, part-length cells e o all q)
+  can-keep {pass = Pass.Merge M T} e o all w q u room sky =
+      let a = w .outcome in
+      let p = part-length cells e o all q in
+      (a .stands, omega (arith, a .least, w .zuniqs, room .0), omega (arith, a .least, w .values, room .1), sky .0, sky .1)
 
   -- A merger that gives sums keeps the total.
   pub wrote-total : (figure : A → ℕ) {M : ℕ} {T : Float} → Sums (accept M T) figure → Wrote (Pass.Merge M T) accept zs₀ vs₀ n zs vs cells → total figure (held 29 n zs vs) ≡ total figure cells
   unfolding held readOnto
   wrote-total figure {M} {T} sums w = let e = ap (total figure) (w .outcome .is) in omega (arith, run-total (accept M T) figure sums [] cells)
+
+  -- Counting has left the buffers as they were.
+  pub wrote-untouched : {pass : Pass} (zs′ : List ℕ) (vs′ : List A) → Wrote pass accept zs₀ vs₀ n zs vs cells → Untouched pass zs vs zs′ vs′ → Untouched pass zs₀ vs₀ zs′ vs′
+  wrote-untouched {pass = Pass.Count} zs′ vs′ w u = (u .0 ∙ w .outcome .1, u .1 ∙ w .outcome .2)
+  wrote-untouched {pass = Pass.Merge M T} zs′ vs′ w u = tt
+
+  pub wrote-stands : {pass : Pass} → Wrote pass accept zs₀ vs₀ n zs vs cells → Standing pass n zs vs
+  wrote-stands {pass = Pass.Count} w = tt
+  wrote-stands {pass = Pass.Merge M T} w = w .outcome .stands

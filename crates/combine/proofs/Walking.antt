@@ -10,11 +10,11 @@ use native.Mathlib.Omega.{arith}
 use native.Mathlib.Nat.{one-le-pow}
 use lib.ListN.{length, getD}
 use Rattle.zuniq.specs.Cells.{nHash}
-use Rattle.build.specs.Map.{Entry, itselfOr}
+use Rattle.build.specs.Map.{Entry}
 use Rattle.build.specs.Promises.{Rises}
 use Rattle.build.proofs.Rising.{rises-in-range}
 use Rattle.combine.specs.Overlay.{Seen, Split, overlay}
-use Rattle.combine.specs.Rules.{Rule, kept}
+use Rattle.combine.specs.Rules.{Rule, keptOf, kept}
 use Rattle.combine.specs.Walk.{weight}
 use Rattle.combine.specs.Heads.{Saw, sawLeft, sawRight, sawBoth, shows, opensLeft, opensRight, ends, At, sideAt, sideStart, used, opened, takesLeft, takesRight, InSky, Shallow, shownAs, Turned, ChildOf, Advanced}
 use Rattle.combine.specs.Slices.{entriesOf, Holds}
@@ -22,11 +22,8 @@ use Rattle.combine.proofs.Walk.{weight-open}
 use Rattle.combine.proofs.Sides.{from, pending, pushed, toCome, filled, open-room, open-to-come}
 use Rattle.combine.proofs.State.{State, state-filled, state-shown, state-ends, state-open-left, state-open-right}
 
--- What a rule keeps of one cell more.
-abbrev pub keptOf : {A : Type 0} → Rule A → Entry (Seen A) → List (Entry A)
-keptOf rule e = itselfOr (e .depth) (e .hash) (rule e) []
-
-pub kept-append : {A : Type 0} (rule : Rule A) (o p : List (Entry (Seen A))) → kept rule (o ++ p) ≡ kept rule o ++ kept rule p
+-- What a rule keeps of one list behind another.
+kept-append : {A : Type 0} (rule : Rule A) (o p : List (Entry (Seen A))) → kept rule (o ++ p) ≡ kept rule o ++ kept rule p
 unfolding kept
 kept-append rule [] p = refl
 kept-append rule (e ∷ o) p = ap (λ l. keptOf rule e ++ l) (kept-append rule o p) ∙ sym (append-assoc (keptOf rule e) (kept rule o) (kept rule p))

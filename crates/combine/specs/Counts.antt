@@ -1,15 +1,13 @@
 -- Section 5 of the scope: what the types of the count walk stand for, and what its functions promise.
 use mathlib.Core.List.{List}
 use mathlib.Core.Option.{Option, none, some}
-use Prim.Native.Nat.{ℕ, _+_, _^_, _≤_, _<_}
-use lib.ListN.{length}
+use Prim.Native.Nat.{ℕ, _+_, _≤_}
 use Rattle.build.specs.Map.{Entry, entry}
 use Rattle.build.specs.Buffers.{held}
 use Rattle.build.specs.Counts.{totalOf}
-use Rattle.build.specs.Standing.{Stands}
 use Rattle.combine.specs.Overlay.{overlay}
 use Rattle.combine.specs.Rules.{kept, splitCount, poolRule, pooledCount}
-use Rattle.combine.specs.Heads.{Saw, sawLeft, sawRight, sawBoth, Act, shows, opensLeft, opensRight, ends, At, InSky, shownAs}
+use Rattle.combine.specs.Heads.{Saw, sawLeft, sawRight, sawBoth, Act, shows, opensLeft, opensRight, ends, At, shownAs}
 use Rattle.combine.specs.Slices.{entriesOf}
 use Rattle.combine.specs.declared.Pass.{Pass}
 use Rattle.combine.specs.declared.counts.Dhv.{Dhv}
@@ -49,7 +47,7 @@ pooled s = let e = shownAs asEntry (sawOf s) in entry (e .depth) (e .hash) (pool
 abbrev pub poolCells : List ℕ → List ℕ → List ℕ → List ℕ → List (Entry ℕ)
 poolCells lz lv rz rv = kept poolRule (overlay splitCount 29 (entriesOf lz lv) (entriesOf rz rv))
 
--- What counting, and what merging, asks of a cell that is kept behind n others.
-abbrev pub Keeps : Pass → ℕ → Dhv → List ℕ → List ℕ → Type 0
-Keeps Pass.Count n c zs vs = n + 1 < 2 ^ 64
-Keeps (Pass.Merge M T) n c zs vs = Stands 29 n zs vs × (n < length zs) × (n < length vs) × InSky asEntry c × (c .value + totalOf (held 29 n zs vs) ≤ 4294967295)
+-- the count of a cell that is merged into n entries, and theirs, fit a u32
+abbrev pub TotalFits : Pass → ℕ → Dhv → List ℕ → List ℕ → Type 0
+TotalFits Pass.Count n c zs vs = Unit {0}
+TotalFits (Pass.Merge M T) n c zs vs = c .value + totalOf (held 29 n zs vs) ≤ 4294967295

@@ -6,3 +6,4 @@ pub mod Heads
 pub mod Slices
 pub mod Counts
 pub mod Pool
+pub mod Densities

@@ -13,10 +13,14 @@ use Rattle.combine.specs.Overlay.{Seen, left, right, both, Split, overla
 abbrev pub Rule : Type 0 → Type 0
 Rule A = Entry (Seen A) → Option A
 
+-- an overlay cell, with the value that it is kept with, if it is kept
+abbrev pub keptOf : {A : Type 0} → Rule A → Entry (Seen A) → List (Entry A)
+keptOf rule e = itselfOr (e .depth) (e .hash) (rule e) []
+
 -- the "overlay cells kept by the rule", with their values
 unfoldable pub kept : {A : Type 0} → Rule A → List (Entry (Seen A)) → List (Entry A)
 kept rule [] = []
-kept rule (e ∷ o) = itselfOr (e .depth) (e .hash) (rule e) [] ++ kept rule o
+kept rule (e ∷ o) = keptOf rule e ++ kept rule o
 
 -- "Merging .. then makes the defined map with overlay cells in place of listed ones"; K is the depth of the result, "the larger"
 unfoldable pub combined : {A : Type 0} → Merger A → Split A → Rule A → ℕ → List (Entry A) → List (Entry A) → List (Entry A)

@@ -1,7 +1,7 @@
 -- Section 5 of the scope: maps in slices, and what counting or merging cells leaves.
 use mathlib.Core.Path.{_≡_}
 use mathlib.Core.List.{List, [], _∷_}
-use Prim.Native.Nat.{ℕ, _+_, _≤_, _<_}
+use Prim.Native.Nat.{ℕ, _+_, _^_, _≤_, _<_}
 use lib.Ieee.{Float}
 use lib.ListN.{length, getD}
 use Rattle.zuniq.specs.Cells.{nHash}
@@ -9,7 +9,7 @@ use Rattle.zuniq.specs.Codec.{IsZuniqOf, decode}
 use Rattle.build.specs.Map.{Entry, Merger}
 use Rattle.build.specs.Buffers.{withCell}
 use Rattle.build.specs.Promises.{Rises}
-use Rattle.build.specs.Standing.{Added}
+use Rattle.build.specs.Standing.{Stands, Added}
 use Rattle.combine.specs.declared.Pass.{Pass}
 
 -- the entries of a map, the first one first
@@ -35,3 +35,18 @@ module _ {A : Type 0} where
   abbrev pub Room : Pass → List (Entry A) → List ℕ → List A → Type 0
   Room Pass.Count l zs vs = Unit {0}
   Room (Pass.Merge M T) l zs vs = (length l ≤ length zs) × (length l ≤ length vs)
+
+  -- n entries stand in the buffers, if cells are merged into them
+  abbrev pub Standing : Pass → ℕ → List ℕ → List A → Type 0
+  Standing Pass.Count n zs vs = Unit {0}
+  Standing (Pass.Merge M T) n zs vs = Stands 29 n zs vs
+
+  -- what it takes to count a cell behind n others, or to merge it into n entries
+  abbrev pub CanKeep : Pass → ℕ → Entry A → List ℕ → List A → Type 0
+  CanKeep Pass.Count n e zs vs = n + 1 < 2 ^ 64
+  CanKeep (Pass.Merge M T) n e zs vs = Stands 29 n zs vs × (n < length zs) × (n < length vs) × (e .depth ≤ 29) × (e .hash < nHash (e .depth))
+
+  -- counting leaves the buffers as they are
+  abbrev pub Untouched : Pass → List ℕ → List A → List ℕ → List A → Type 0
+  Untouched Pass.Count zs vs zs′ vs′ = (zs′ ≡ zs) × (vs′ ≡ vs)
+  Untouched (Pass.Merge M T) zs vs zs′ vs′ = Unit {0}

@@ -12,8 +12,8 @@ ghost use Rattle.merger.specs.Merge.{acceptCounts};
 ghost use Rattle.build.specs.Counts.{totalOf};
 ghost use Rattle.combine.specs.Rules.{splitCount};
 ghost use Rattle.combine.specs.Heads.{sideStart, opened, takesLeft, takesRight, InSky, Shallow, Turned, ChildOf, EntryAt, Advanced};
-ghost use Rattle.combine.specs.Slices.{entriesOf, Holds, Outcome, Room};
-ghost use Rattle.combine.specs.Counts.{asEntry, headOf, sideOf, sawOf, actOf, pooled, poolCells, Keeps};
+ghost use Rattle.combine.specs.Slices.{entriesOf, Holds, Outcome, Room, CanKeep};
+ghost use Rattle.combine.specs.Counts.{asEntry, headOf, sideOf, sawOf, actOf, pooled, poolCells, TotalFits};
 use crate::Pass;
 use build::counts::push;
 use zuniq::Decoded;
@@ -117,7 +117,7 @@ pub fn pool_cells(
 
 // Counts a cell behind n others, or merges it into n entries. Answers the new number.
 fn keep(pass: Pass, cell: Dhv, zuniqs: &mut [u64], counts: &mut [u32], n: usize) -> usize
-    requires { ⌜ Keeps pass n cell (now zuniqs) (now counts) ⌝ }
+    requires { ⌜ CanKeep pass n (asEntry cell) (now zuniqs) (now counts) × TotalFits pass n cell (now zuniqs) (now counts) ⌝ }
     ensures { λ r. ⌜ Outcome pass acceptCounts n (asEntry cell ∷ []) (now (zuniqs .entry)) (now (counts .entry)) r (now (zuniqs .exit)) (now (counts .exit)) ⌝ }
 {
     match pass {

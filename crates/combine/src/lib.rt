@@ -14,6 +14,7 @@ use zuniq::refusal::Refusal;
 
 pub mod counts;
 pub mod pool;
+pub mod densities;
 
 // What a walk of two maps is for: to count the cells that the rule keeps, or to merge them into a
 // map in the output buffers.

@@ -1,22 +1,18 @@
+-- `counts::part_of` meets its contract. Assumes nothing.
 use borrow.Author.Tests.{lt-ltb, le-ltb}
 use native.Mathlib.Omega.{arith}
 use Rattle.combine.specs.Rules.{splitCount}
 use borrow.Author.Needs.{needs}
 use Rattle.combine.proofs.counts.part_of.Statement.{statement}
 use Rattle.combine.proofs.counts.part_of.Tie as tie
-use Rattle.combine.proofs.counts.part_of.Reads as reads
-use Rattle.combine.proofs.counts.part_of.Lts as lts
 
--- src/counts.rt:244:24
 add-result : tie.Need-add-result
 add-result c = search needs
 
--- src/counts.rt:241:1
 returns : tie.Need-returns
 unfolding splitCount
 returns c = rw (lt-ltb _ _ (c .if1 .taken))
 
--- src/counts.rt:241:1
 returns-2 : tie.Need-returns-2
 unfolding splitCount
 returns-2 c = rw (le-ltb _ _ (c .if1 .left)) (omega arith)

@@ -1,0 +1,356 @@
+// The overlay of two density maps, walked by their heads, and what the product keeps of it.
+//
+// Each side is a head, the pending cells of those that were split, and the entries of its map that
+// are still to come. Of two heads the one before the other is seen alone, and the same cell is seen
+// by both; where one lies strictly inside the other, the outer one is split, its first child is the
+// head, and the other three wait.
+ghost use mathlib.Core.Path.{_≡_};
+ghost use mathlib.Core.Option.{some};
+ghost use Prim.Native.Nat.{_-_, _≤_, _<_};
+ghost use lib.Ieee.{nan};
+ghost use Rattle.combine.specs.Rules.{keptOf, copyDensity, productRule};
+ghost use Rattle.combine.specs.Heads.{sideStart, opened, takesLeft, takesRight, InSky, Shallow, shownAs, Turned, ChildOf, EntryAt, Advanced};
+ghost use Rattle.combine.specs.Slices.{Holds, Room};
+ghost use Rattle.combine.specs.Densities.{asEntry, headOf, sideOf, sawOf, actOf, cellsOf, productCells, notFinite, CanKeepCells, CellsOutcome};
+use crate::Pass;
+use build::densities::push;
+use merger::is_nan;
+use zuniq::Decoded;
+use zuniq::Zuniq64;
+
+// A cell with its density: depth, hash and value.
+pub struct Dhv {
+    pub depth: u8,
+    pub hash: u64,
+    pub value: f64,
+}
+
+// What an array of pending cells starts with.
+const BLANK: Dhv = Dhv {
+    depth: 0,
+    hash: 0,
+    value: 0.0,
+};
+
+// An overlay cell as the rule sees it.
+pub enum LhsRhsBoth {
+    Left(Dhv),
+    Right(Dhv),
+    Both(Dhv, Dhv),
+}
+
+// The next cell of a side.
+pub enum Head {
+    Cell(Dhv),
+    End,
+}
+
+// A side of the walk, apart from the array of its pending cells.
+pub struct Side {
+    pub head: Head,
+    // How many cells are pending.
+    pub pending: usize,
+    // Where the next entry of the map is.
+    pub place: usize,
+    // The head has been used up.
+    pub taken: bool,
+}
+
+// What a turn of the walk does.
+pub enum Turn {
+    Show(LhsRhsBoth),
+    OpenLeft(Dhv),
+    OpenRight(Dhv),
+    Stop,
+}
+
+// What the rule answers of an overlay cell.
+pub enum Answer {
+    Kept(Dhv),
+    Dropped,
+}
+
+// What the walk answers: the number of cells or of entries, or that a product is not finite.
+pub enum Cells {
+    Number(usize),
+    NotFinite,
+}
+
+// Walks the overlay of two valid maps. Counting, it answers how many cells the product has before
+// merging; merging, it makes the product in the two output buffers and answers how many entries it
+// has. Either ends at the first value that is not finite.
+pub fn product_cells(
+    left_zuniqs: &[u64],
+    left_densities: &[f64],
+    right_zuniqs: &[u64],
+    right_densities: &[f64],
+    k: f64,
+    pass: Pass,
+    zuniqs: &mut [u64],
+    densities: &mut [f64],
+) -> Cells
+    requires { ⌜ Holds (now «left_zuniqs») (now «left_densities») × Holds (now «right_zuniqs») (now «right_densities») ⌝ }
+    requires { ⌜ Room pass (productCells k (now «left_zuniqs») (now «left_densities») (now «right_zuniqs») (now «right_densities»)) (now zuniqs) (now densities) ⌝ }
+    ensures { λ r. ⌜ CellsOutcome pass 0 (productCells k (now («left_zuniqs» .entry)) (now («left_densities» .entry)) (now («right_zuniqs» .entry)) (now («right_densities» .entry))) (now (zuniqs .entry)) (now (densities .entry)) r (now (zuniqs .exit)) (now (densities .exit)) ⌝ }
+{
+    let mut lefts = [BLANK; 87];
+    let mut rights = [BLANK; 87];
+    let mut left = start();
+    let mut right = start();
+    let mut n: usize = 0;
+    loop {
+        let top = last_pending(left);
+        left = next(left, lefts[top], left_zuniqs, left_densities);
+        let top = last_pending(right);
+        right = next(right, rights[top], right_zuniqs, right_densities);
+        match turn_of(left, right) {
+            Turn::Stop => return Cells::Number(n),
+            Turn::Show(seen) => {
+                let cells = keep(pass, product(seen, k), zuniqs, densities, n);
+                let Cells::Number(number) = cells else {
+                    return Cells::NotFinite;
+                };
+                n = number;
+                left.taken = takes_left(seen);
+                right.taken = takes_right(seen);
+            }
+            Turn::OpenLeft(outer) => {
+                let free = left.pending;
+                lefts[free] = child(outer, 3);
+                lefts[free + 1] = child(outer, 2);
+                lefts[free + 2] = child(outer, 1);
+                left = open(left, child(outer, 0));
+            }
+            Turn::OpenRight(outer) => {
+                let free = right.pending;
+                rights[free] = child(outer, 3);
+                rights[free + 1] = child(outer, 2);
+                rights[free + 2] = child(outer, 1);
+                right = open(right, child(outer, 0));
+            }
+        }
+    }
+}
+
+// Counts a cell behind n others, or merges it into n entries, if the rule keeps it and it is finite.
+// Answers the new number.
+fn keep(pass: Pass, answer: Answer, zuniqs: &mut [u64], densities: &mut [f64], n: usize) -> Cells
+    requires { ⌜ CanKeepCells pass n answer (now zuniqs) (now densities) ⌝ }
+    ensures { λ r. ⌜ CellsOutcome pass n (cellsOf answer) (now (zuniqs .entry)) (now (densities .entry)) r (now (zuniqs .exit)) (now (densities .exit)) ⌝ }
+{
+    let Answer::Kept(cell) = answer else {
+        return Cells::Number(n);
+    };
+    if not_finite(cell.value) {
+        return Cells::NotFinite;
+    }
+    match pass {
+        Pass::Count => Cells::Number(n + 1),
+        Pass::Merge {
+            depth_threshold,
+            chi2_threshold,
+        } => Cells::Number(push(
+            zuniqs,
+            densities,
+            n,
+            cell.depth,
+            cell.hash,
+            cell.value,
+            depth_threshold,
+            chi2_threshold,
+        )),
+    }
+}
+
+// The rule of the product: alone dropped, both multiplied.
+fn product(seen: LhsRhsBoth, k: f64) -> Answer
+    ensures { λ r. ⌜ cellsOf r ≡ keptOf (productRule k) (shownAs asEntry (sawOf seen)) ⌝ }
+{
+    match seen {
+        LhsRhsBoth::Left(_) => Answer::Dropped,
+        LhsRhsBoth::Right(_) => Answer::Dropped,
+        LhsRhsBoth::Both(a, b) => Answer::Kept(Dhv {
+            depth: a.depth,
+            hash: a.hash,
+            value: k * a.value * b.value,
+        }),
+    }
+}
+
+// NaN or infinite.
+fn not_finite(x: f64) -> bool
+    ensures { λ r. ⌜ r ≡ notFinite x ⌝ }
+{
+    if is_nan(x) {
+        return true;
+    }
+    if x >= f64::from_bits(0x7ff0_0000_0000_0000) {
+        return true;
+    }
+    x <= f64::from_bits(0xfff0_0000_0000_0000)
+}
+
+fn start() -> Side
+    ensures { λ r. ⌜ sideOf r ≡ sideStart ⌝ }
+{
+    Side {
+        head: Head::End,
+        pending: 0,
+        place: 0,
+        taken: true,
+    }
+}
+
+// The place of the pending cell that comes first, if there is one.
+fn last_pending(side: Side) -> usize
+    ensures { λ r. ⌜ r ≡ side .pending - 1 ⌝ }
+{
+    if side.pending > 0 {
+        side.pending - 1
+    } else {
+        0
+    }
+}
+
+// The side with a head: the one that it has, or the last pending cell, or the next entry of its map.
+fn next(side: Side, top: Dhv, zuniqs: &[u64], densities: &[f64]) -> Side
+    requires { ⌜ Holds (now zuniqs) (now densities) ⌝ }
+    ensures { λ r. ⌜ Advanced asEntry nan (now (zuniqs .entry)) (now (densities .entry)) top (sideOf side) (sideOf r) ⌝ }
+{
+    if !side.taken {
+        return side;
+    }
+    let place = side.place;
+    if side.pending > 0 {
+        return Side {
+            head: Head::Cell(top),
+            pending: side.pending - 1,
+            place,
+            taken: false,
+        };
+    }
+    match head_at(zuniqs, densities, place) {
+        Head::End => Side {
+            head: Head::End,
+            pending: 0,
+            place,
+            taken: false,
+        },
+        Head::Cell(cell) => Side {
+            head: Head::Cell(cell),
+            pending: 0,
+            place: place + 1,
+            taken: false,
+        },
+    }
+}
+
+// The entry at a place, if there is one.
+fn head_at(zuniqs: &[u64], densities: &[f64], i: usize) -> Head
+    requires { ⌜ Holds (now zuniqs) (now densities) ⌝ }
+    ensures { λ r. ⌜ EntryAt asEntry nan (now (zuniqs .entry)) (now (densities .entry)) i (headOf r) ⌝ }
+{
+    if i >= zuniqs.len() {
+        return Head::End;
+    }
+    let Decoded::Cell(cell) = Zuniq64::from_zuniq(zuniqs[i]) else {
+        return Head::End;
+    };
+    Head::Cell(Dhv {
+        depth: cell.depth,
+        hash: cell.hash,
+        value: densities[i],
+    })
+}
+
+// What the heads of two sides lead to.
+fn turn_of(left: Side, right: Side) -> Turn
+    requires { ⌜ Shallow asEntry (sideOf left .head) × Shallow asEntry (sideOf right .head) ⌝ }
+    ensures { λ t. ⌜ Turned asEntry 29 (sideOf left .head) (sideOf right .head) (actOf t) ⌝ }
+{
+    let l = left.head;
+    let r = right.head;
+    match l {
+        Head::End => match r {
+            Head::End => Turn::Stop,
+            Head::Cell(b) => Turn::Show(LhsRhsBoth::Right(b)),
+        },
+        Head::Cell(a) => match r {
+            Head::End => Turn::Show(LhsRhsBoth::Left(a)),
+            Head::Cell(b) => meet(a, b),
+        },
+    }
+}
+
+// The deeper one's ancestor at the other's depth is before that other, after it, or the same.
+fn meet(a: Dhv, b: Dhv) -> Turn
+    requires { ⌜ (a .depth ≤ 29) × (b .depth ≤ 29) ⌝ }
+    ensures { λ t. ⌜ Turned asEntry 29 (some a) (some b) (actOf t) ⌝ }
+{
+    if a.depth <= b.depth {
+        let ancestor = b.hash >> (Zuniq64::DIM * (b.depth - a.depth));
+        if a.hash < ancestor {
+            return Turn::Show(LhsRhsBoth::Left(a));
+        }
+        if ancestor < a.hash {
+            return Turn::Show(LhsRhsBoth::Right(b));
+        }
+        if a.depth < b.depth {
+            return Turn::OpenLeft(a);
+        }
+        return Turn::Show(LhsRhsBoth::Both(a, b));
+    }
+    let ancestor = a.hash >> (Zuniq64::DIM * (a.depth - b.depth));
+    if ancestor < b.hash {
+        return Turn::Show(LhsRhsBoth::Left(a));
+    }
+    if b.hash < ancestor {
+        return Turn::Show(LhsRhsBoth::Right(b));
+    }
+    Turn::OpenRight(b)
+}
+
+fn takes_left(seen: LhsRhsBoth) -> bool
+    ensures { λ r. ⌜ r ≡ takesLeft (sawOf seen) ⌝ }
+{
+    match seen {
+        LhsRhsBoth::Left(_) => true,
+        LhsRhsBoth::Right(_) => false,
+        LhsRhsBoth::Both(_, _) => true,
+    }
+}
+
+fn takes_right(seen: LhsRhsBoth) -> bool
+    ensures { λ r. ⌜ r ≡ takesRight (sawOf seen) ⌝ }
+{
+    match seen {
+        LhsRhsBoth::Left(_) => false,
+        LhsRhsBoth::Right(_) => true,
+        LhsRhsBoth::Both(_, _) => true,
+    }
+}
+
+// The side whose head has been split: its first child is the head, and the other three are pending.
+fn open(side: Side, first: Dhv) -> Side
+    requires { ⌜ side .pending ≤ 84 ⌝ }
+    ensures { λ r. ⌜ sideOf r ≡ opened first (sideOf side) ⌝ }
+{
+    Side {
+        head: Head::Cell(first),
+        pending: side.pending + 3,
+        place: side.place,
+        taken: false,
+    }
+}
+
+// Child i of a cell: it copies its parent.
+fn child(parent: Dhv, i: u32) -> Dhv
+    requires { ⌜ InSky asEntry parent × (parent .depth < 29) × (i < 4) ⌝ }
+    ensures { λ r. ⌜ ChildOf asEntry copyDensity parent i r ⌝ }
+{
+    Dhv {
+        depth: parent.depth + 1,
+        hash: 4 * parent.hash + i as u64,
+        value: parent.value,
+    }
+}
