@@ -8,6 +8,7 @@ use Rattle.merger.proofs.Accept.{accepted-count-is-sum}
 use Rattle.combine.specs.Rules.{splitCount, poolRule}
 use Rattle.combine.specs.Heads.{Turned}
 use Rattle.combine.specs.Counts.{asEntry, sideOf, sawOf, actOf}
+use Rattle.combine.specs.declared.counts.LhsRhsBoth.{LhsRhsBoth}
 use Rattle.combine.specs.declared.counts.Turn.{Turn}
 use Rattle.combine.proofs.Outcomes.{Wrote, wrote-nothing}
 use Rattle.combine.proofs.Walking.{Walking, Ready, Opens, leftOver, walking-start, walking-ready, heads-shallow, ready-ends, shown-less, opens-left, left-opened, left-opened-less, opens-right, right-opened, right-opened-less}
@@ -53,15 +54,43 @@ ready c =
     walking-ready (p .0) (p .1) (loop c .loop .inv) (c .before .before .before .before .before .last-pending .ensures) (c .before .before .before .next .ensures) (c .before .before .last-pending2 .ensures) (c .next2 .ensures)
 
 -- the turn is known
-turned : (c : tie.After-turn-of Inv-loop μ-loop) (t : Turn) → c .turn-of .result ≡ t → Turned asEntry 29 (sideOf (c .before .before .before .before .next .result) .head) (sideOf (c .before .next2 .result) .head) (actOf t)
-turned c t q = subst (λ (t : Turn). Turned asEntry 29 (sideOf (c .before .before .before .before .next .result) .head) (sideOf (c .before .next2 .result) .head) (actOf t)) q (c .turn-of .ensures)
+abbrev TurnedAt : tie.After-turn-of Inv-loop μ-loop → Turn → Type 0
+TurnedAt c t = Turned asEntry 29 (sideOf (c .before .before .before .before .next .result) .head) (sideOf (c .before .next2 .result) .head) (actOf t)
+
+turned : (c : tie.After-turn-of Inv-loop μ-loop) (t : Turn) → c .turn-of .result ≡ t → TurnedAt c t
+turned c t q = subst (TurnedAt c) q (c .turn-of .ensures)
+
+-- a cell is shown
+abbrev Shown : Type 0
+Shown = tie.After-known-told Inv-loop μ-loop
+
+abbrev seen : Shown → LhsRhsBoth
+seen c = c .before .seen .given .0 .0
+
+abbrev fetched : Shown → Fetched
+fetched c = c .before .before .before .before
+
+shows-it : (c : Shown) → TurnedAt (c .before .before .before) (Turn.Show (seen c))
+shows-it c = turned (c .before .before .before) _ (c .before .seen .given .1)
 
 -- a head is split
-opening-left : (c : tie.After-known-told2 Inv-loop μ-loop) → Opens asEntry (c .before .outer .given .0 .0) (c .before .before .before .before .before .before .before .next .result .pending)
-opening-left c = opens-left (ready (c .before .before .before .before)) (turned (c .before .before .before) _ (c .before .outer .given .1))
+abbrev OpenedLeft : Type 0
+OpenedLeft = tie.After-known-told2 Inv-loop μ-loop
 
-opening-right : (c : tie.After-known-told3 Inv-loop μ-loop) → Opens asEntry (c .before .outer2 .given .0 .0) (c .before .before .before .before .next2 .result .pending)
-opening-right c = opens-right (ready (c .before .before .before .before)) (turned (c .before .before .before) _ (c .before .outer2 .given .1))
+abbrev OpenedRight : Type 0
+OpenedRight = tie.After-known-told3 Inv-loop μ-loop
+
+opens-it-left : (c : OpenedLeft) → TurnedAt (c .before .before .before) (Turn.OpenLeft (c .before .outer .given .0 .0))
+opens-it-left c = turned (c .before .before .before) _ (c .before .outer .given .1)
+
+opens-it-right : (c : OpenedRight) → TurnedAt (c .before .before .before) (Turn.OpenRight (c .before .outer2 .given .0 .0))
+opens-it-right c = turned (c .before .before .before) _ (c .before .outer2 .given .1)
+
+opening-left : (c : OpenedLeft) → Opens asEntry (c .before .outer .given .0 .0) (c .before .before .before .before .before .before .before .next .result .pending)
+opening-left c = opens-left (ready (c .before .before .before .before)) (opens-it-left c)
+
+opening-right : (c : OpenedRight) → Opens asEntry (c .before .outer2 .given .0 .0) (c .before .before .before .before .next2 .result .pending)
+opening-right c = opens-right (ready (c .before .before .before .before)) (opens-it-right c)
 
 pub pool-cells-spec : {M : Type 1} → statement M
 pool-cells-spec =
@@ -69,58 +98,53 @@ pool-cells-spec =
     (tie.spec
     Inv-loop
     μ-loop
-    (λ c κs. tt)
-    (λ c κs. tt)
+    -- both sides before their first entries
+    (λ c κs. tt) (λ c κs. tt)
     (λ c. let s = c .before .before .before .before .before .before .before .before in walking-start (c .before .start .ensures) (c .start2 .ensures) refl refl (s .pre .0 .0) (s .pre .0 .1) (wrote-nothing _ _ _ _))
+    -- the next head on the left
     (λ c κs. tt)
     (λ c. let r = c .before .loop .inv .state .on-left .room in let e = c .last-pending .ensures in record { fits = omega arith })
     (λ c. let r = c .before .loop .inv .state .on-left .room in let e = c .last-pending .ensures in omega arith)
     (λ c κs. start (c .before .before) .pre .0 .0)
+    -- and on the right
     (λ c κs. tt)
     (λ c. let r = c .before .before .before .before .loop .inv .state .on-right .room in let e = c .last-pending2 .ensures in record { fits = omega arith })
     (λ c. let r = c .before .before .before .before .loop .inv .state .on-right .room in let e = c .last-pending2 .ensures in omega arith)
     (λ c κs. start (c .before .before .before .before .before) .pre .0 .1)
+    -- the turn; at the end
     (λ c κs. heads-shallow (ready c))
     (λ c. search needs)
     (λ c. loop (c .before .before .before) .loop .inv .wrote .zuniqs)
     (λ c. loop (c .before .before .before) .loop .inv .wrote .values)
     (λ c. ready-ends (ready (c .before .before .before)) (turned (c .before .before) _ (c .enum-told .given .1)) .outcome)
+    -- a cell is shown
     (λ c. search needs)
-    (λ c κs. let p = start (loop (c .before .before .before .before)) .pre in shown-fits (p .0 .0) (p .0 .1) (p .0 .2) (ready (c .before .before .before .before)) (c .before .seen .given .0 .0) (turned (c .before .before .before) _ (c .before .seen .given .1)))
-    (λ c κs. let p = start (loop (c .before .before .before .before .before .before .before)) .pre in shown-keeps (p .0 .0) (p .0 .1) (p .0 .2) (ready (c .before .before .before .before .before .before .before)) (c .before .before .before .before .seen .given .0 .0) (turned (c .before .before .before .before .before .before) _ (c .before .before .before .before .seen .given .1)) accepted-count-is-sum (p .1) _ (c .before .before .pool .ensures))
-    (λ c κs. tt)
-    (λ c κs. tt)
-    (λ c. shown-less (ready (c .before .before .before .before .before .before .before .before .before .before .before .before .before .before)) (sawOf (c .before .before .before .before .before .before .before .before .before .before .before .seen .given .0 .0)) (turned (c .before .before .before .before .before .before .before .before .before .before .before .before .before) _ (c .before .before .before .before .before .before .before .before .before .before .before .seen .given .1)) (c .before .takes-left .ensures) (c .takes-right .ensures))
-    (λ c. let k = c .before .before .before .before .before .before .keep in shown-kept (ready (c .before .before .before .before .before .before .before .before .before .before .before .before .before .before)) (c .before .before .before .before .before .before .before .before .before .before .before .seen .given .0 .0) (turned (c .before .before .before .before .before .before .before .before .before .before .before .before .before) _ (c .before .before .before .before .before .before .before .before .before .before .before .seen .given .1)) _ (c .before .before .before .before .before .before .before .before .before .pool .ensures) (k .ensures) (k .kept .1 .1 .0) (k .kept .1 .1 .1 .0) (c .before .takes-left .ensures) (c .takes-right .ensures))
+    (λ c κs. let p = start (loop (fetched c)) .pre .0 in shown-fits (p .0) (p .1) (p .2) (ready (fetched c)) (seen c) (shows-it c))
+    (λ c κs. let s : Shown = c .before .before .before in let p = start (loop (fetched s)) .pre in shown-keeps (p .0 .0) (p .0 .1) (p .0 .2) (ready (fetched s)) (seen s) (shows-it s) accepted-count-is-sum (p .1) _ (c .before .before .pool .ensures))
+    (λ c κs. tt) (λ c κs. tt)
+    (λ c. let s : Shown = c .before .before .before .before .before .before .before .before .before .before in shown-less (ready (fetched s)) (sawOf (seen s)) (shows-it s) (c .before .takes-left .ensures) (c .takes-right .ensures))
+    (λ c. let s : Shown = c .before .before .before .before .before .before .before .before .before .before in let k = c .before .before .before .before .before .before .keep in shown-kept (ready (fetched s)) (seen s) (shows-it s) _ (c .before .before .before .before .before .before .before .before .before .pool .ensures) (k .ensures) (k .kept .1 .1 .0) (k .kept .1 .1 .1 .0) (c .before .takes-left .ensures) (c .takes-right .ensures))
+    -- the left head is split
     (λ c. search needs)
     (λ c κs. let o = opening-left c in (o .in-sky, o .deep, omega arith))
-    (λ c. let r = opening-left (c .before) .room in record { fits = omega arith })
-    (λ c. let r = opening-left (c .before) .room in omega arith)
+    (λ c. let r = opening-left (c .before) .room in record { fits = omega arith }) (λ c. let r = opening-left (c .before) .room in omega arith)
     (λ c κs. let o = opening-left (c .before) in (o .in-sky, o .deep, omega arith))
-    (λ c. let r = opening-left (c .before .before) .room in record { fits = omega arith })
-    (λ c. let r = opening-left (c .before .before) .room in record { fits = omega arith })
-    (λ c. let r = opening-left (c .before .before) .room in omega arith)
+    (λ c. let r = opening-left (c .before .before) .room in record { fits = omega arith }) (λ c. let r = opening-left (c .before .before) .room in record { fits = omega arith }) (λ c. let r = opening-left (c .before .before) .room in omega arith)
     (λ c κs. let o = opening-left (c .before .before) in (o .in-sky, o .deep, omega arith))
-    (λ c. let r = opening-left (c .before .before .before) .room in record { fits = omega arith })
-    (λ c. let r = opening-left (c .before .before .before) .room in record { fits = omega arith })
-    (λ c. let r = opening-left (c .before .before .before) .room in omega arith)
+    (λ c. let r = opening-left (c .before .before .before) .room in record { fits = omega arith }) (λ c. let r = opening-left (c .before .before .before) .room in record { fits = omega arith }) (λ c. let r = opening-left (c .before .before .before) .room in omega arith)
     (λ c κs. let o = opening-left (c .before .before .before) in (o .in-sky, o .deep, omega arith))
     (λ c κs. let r = opening-left (c .before .before .before .before) .room in omega arith)
-    (λ c. left-opened-less (ready (c .before .before .before .before .before .before .before .before .before)) (turned (c .before .before .before .before .before .before .before .before) _ (c .before .before .before .before .before .before .outer .given .1)) (c .before .before .before .before .child .ensures) (c .before .before .before .child2 .ensures) (c .before .before .child3 .ensures) (c .before .child4 .ensures) (c .«open» .ensures))
-    (λ c. left-opened (ready (c .before .before .before .before .before .before .before .before .before)) (turned (c .before .before .before .before .before .before .before .before) _ (c .before .before .before .before .before .before .outer .given .1)) (c .before .before .before .before .child .ensures) (c .before .before .before .child2 .ensures) (c .before .before .child3 .ensures) (c .before .child4 .ensures) (c .«open» .ensures))
+    (λ c. let o : OpenedLeft = c .before .before .before .before .before in left-opened-less (ready (o .before .before .before .before)) (opens-it-left o) (c .before .before .before .before .child .ensures) (c .before .before .before .child2 .ensures) (c .before .before .child3 .ensures) (c .before .child4 .ensures) (c .«open» .ensures))
+    (λ c. let o : OpenedLeft = c .before .before .before .before .before in left-opened (ready (o .before .before .before .before)) (opens-it-left o) (c .before .before .before .before .child .ensures) (c .before .before .before .child2 .ensures) (c .before .before .child3 .ensures) (c .before .child4 .ensures) (c .«open» .ensures))
+    -- the right head is split
     (λ c. search needs)
     (λ c κs. let o = opening-right c in (o .in-sky, o .deep, omega arith))
-    (λ c. let r = opening-right (c .before) .room in record { fits = omega arith })
-    (λ c. let r = opening-right (c .before) .room in omega arith)
+    (λ c. let r = opening-right (c .before) .room in record { fits = omega arith }) (λ c. let r = opening-right (c .before) .room in omega arith)
     (λ c κs. let o = opening-right (c .before) in (o .in-sky, o .deep, omega arith))
-    (λ c. let r = opening-right (c .before .before) .room in record { fits = omega arith })
-    (λ c. let r = opening-right (c .before .before) .room in record { fits = omega arith })
-    (λ c. let r = opening-right (c .before .before) .room in omega arith)
+    (λ c. let r = opening-right (c .before .before) .room in record { fits = omega arith }) (λ c. let r = opening-right (c .before .before) .room in record { fits = omega arith }) (λ c. let r = opening-right (c .before .before) .room in omega arith)
     (λ c κs. let o = opening-right (c .before .before) in (o .in-sky, o .deep, omega arith))
-    (λ c. let r = opening-right (c .before .before .before) .room in record { fits = omega arith })
-    (λ c. let r = opening-right (c .before .before .before) .room in record { fits = omega arith })
-    (λ c. let r = opening-right (c .before .before .before) .room in omega arith)
+    (λ c. let r = opening-right (c .before .before .before) .room in record { fits = omega arith }) (λ c. let r = opening-right (c .before .before .before) .room in record { fits = omega arith }) (λ c. let r = opening-right (c .before .before .before) .room in omega arith)
     (λ c κs. let o = opening-right (c .before .before .before) in (o .in-sky, o .deep, omega arith))
     (λ c κs. let r = opening-right (c .before .before .before .before) .room in omega arith)
-    (λ c. right-opened-less (ready (c .before .before .before .before .before .before .before .before .before)) (turned (c .before .before .before .before .before .before .before .before) _ (c .before .before .before .before .before .before .outer2 .given .1)) (c .before .before .before .before .child5 .ensures) (c .before .before .before .child6 .ensures) (c .before .before .child7 .ensures) (c .before .child8 .ensures) (c .open2 .ensures))
-    (λ c. right-opened (ready (c .before .before .before .before .before .before .before .before .before)) (turned (c .before .before .before .before .before .before .before .before) _ (c .before .before .before .before .before .before .outer2 .given .1)) (c .before .before .before .before .child5 .ensures) (c .before .before .before .child6 .ensures) (c .before .before .child7 .ensures) (c .before .child8 .ensures) (c .open2 .ensures)))
+    (λ c. let o : OpenedRight = c .before .before .before .before .before in right-opened-less (ready (o .before .before .before .before)) (opens-it-right o) (c .before .before .before .before .child5 .ensures) (c .before .before .before .child6 .ensures) (c .before .before .child7 .ensures) (c .before .child8 .ensures) (c .open2 .ensures))
+    (λ c. let o : OpenedRight = c .before .before .before .before .before in right-opened (ready (o .before .before .before .before)) (opens-it-right o) (c .before .before .before .before .child5 .ensures) (c .before .before .before .child6 .ensures) (c .before .before .child7 .ensures) (c .before .child8 .ensures) (c .open2 .ensures)))
