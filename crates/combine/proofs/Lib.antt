@@ -16,3 +16,4 @@ pub mod Given
 pub mod PoolCall
 pub mod Checks
 pub mod DensityCells
+pub mod ProductCall

@@ -5,5 +5,5 @@ pub mod Walk
 pub mod Heads
 pub mod Slices
 pub mod Counts
-pub mod Pool
 pub mod Densities
+pub mod Pool

@@ -1,8 +1,8 @@
 -- Section 5 of the scope: the pool and product calls. A call's refusals are one definition, the first that applies in the order of
 -- the table "Refusals in checking order", "in each row left map before right"; its answer and the output afterwards are another.
 use mathlib.Core.Bool.{Bool, _||_, not}
-use mathlib.Core.List.{List, [], _∷_, reverse}
-use mathlib.Core.Option.{Option, none}
+use mathlib.Core.List.{List, reverse}
+use mathlib.Core.Option.{Option}
 use Prim.Native.Nat.{ℕ, _+_, max}
 use lib.Dec.{eqb, ltb}
 use lib.Ieee.{Float, isNan}
@@ -21,6 +21,7 @@ use Rattle.build.specs.declared.densities.DensitiesAdded.{DensitiesAdded}
 use Rattle.combine.specs.Overlay.{overlay}
 use Rattle.combine.specs.Rules.{kept, splitCount, poolRule, definedPool, copyDensity, productRule, definedProduct}
 use Rattle.combine.specs.Slices.{entriesOf}
+use Rattle.combine.specs.Densities.{someNotFinite}
 
 -- "A map of depth D is m zuniqs with m values."
 pub record Given (A : Type 0) : Type 0 where
@@ -98,10 +99,9 @@ factorRefusal k = refusedIf (invalidDensity k) Refusal.InvalidFactor
 unfoldable pub mapDensitiesRefusal : Given Float → Given Float → Option Refusal
 mapDensitiesRefusal l r = orElse (densityRefusal 0 (l .values)) (densityRefusal 0 (r .values))
 
--- "10. [..] the product of an overlay cell, before merging, is not finite": the factors are not below 0, so that no product is
+-- "10. [..] the product of an overlay cell, before merging, is not finite"
 unfoldable pub finiteRefusal : List (Entry Float) → Option Refusal
-finiteRefusal [] = none
-finiteRefusal (e ∷ l) = orElse (refusedIf (invalidDensity (e .value)) Refusal.ProductNotFinite) (finiteRefusal l)
+finiteRefusal l = refusedIf (someNotFinite l) Refusal.ProductNotFinite
 
 -- Rows 1 to 6.
 unfoldable pub productInputRefusal : Given Float → Given Float → ℕ → Float → Float → ℕ → ℕ → Option Refusal

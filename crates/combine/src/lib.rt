@@ -13,8 +13,9 @@ use zuniq::Zuniq64;
 use zuniq::refusal::Refusal;
 
 pub mod counts;
-pub mod pool;
 pub mod densities;
+pub mod pool;
+pub mod product;
 
 // What a walk of two maps is for: to count the cells that the rule keeps, or to merge them into a
 // map in the output buffers.

@@ -1,0 +1,147 @@
+-- The product call: what one that is not refused leaves. Assumes nothing.
+use mathlib.Core.Path.{_≡_, refl, ap, sym, _∙_}
+use mathlib.Core.Bool.{Bool, true, false, true≢false}
+use mathlib.Core.List.{List, reverse, _++_}
+use mathlib.Core.Option.{Option, none, some}
+use Prim.Native.Nat.{ℕ, _+_, _-_, _≤_, _<_}
+use native.Mathlib.Omega.{arith}
+use lib.Ieee.{Float, nan}
+use lib.ListN.{length, take, replicate}
+use borrow.Author.Tests.{lt-ltb, le-ltb}
+use Rattle.zuniq.specs.declared.refusal.Refusal.{Refusal}
+use Rattle.merger.specs.Floats.{0·0}
+use Rattle.merger.specs.Merge.{acceptDensities}
+use Rattle.build.specs.Map.{Entry, Merger, orElse, definedMap}
+use Rattle.build.specs.Buffers.{held, readOnto}
+use Rattle.build.specs.Calls.{Buffers, Answer}
+use Rattle.build.specs.Standing.{Added}
+use Rattle.build.specs.Densities.{densityCalls, densitiesAdded}
+use Rattle.build.specs.declared.densities.DensitiesAdded.{DensitiesAdded}
+use Rattle.build.proofs.Order.{defined-map-deeper}
+use Rattle.build.proofs.Places.{held-length}
+use Rattle.build.proofs.Checking.{or-else-none}
+use Rattle.build.proofs.Accepted.{map-left}
+use Rattle.combine.specs.Overlay.{overlay}
+use Rattle.combine.specs.Rules.{kept, combined, copyDensity, productRule, definedProduct}
+use Rattle.combine.specs.Densities.{someNotFinite, CellsOutcome}
+use Rattle.combine.specs.declared.Pass.{Pass}
+use Rattle.combine.specs.declared.densities.Cells.{Cells}
+use Rattle.combine.specs.Slices.{Holds}
+use Rattle.combine.specs.Pool.{Given, entries, resultDepth, settingsRefusal, factorRefusal, pairsRefusal, mapsRefusal, placesRefusal, productKept, finiteRefusal, productInputRefusal, productRefusal, productOver, productDensities}
+use Rattle.combine.proofs.Kept.{kept-overlay-rises, run-gives-combined}
+use Rattle.combine.proofs.Deeper.{overlay-deeper}
+use Rattle.combine.proofs.PoolCall.{Passed, passed, left-rises, right-rises, left-shallow, right-shallow, result-deep}
+
+-- What a walk that merges leaves, with every place after it cleared, told by the definition over all depths that there are.
+module _ (l r : List (Entry Float)) (M : ℕ) (T k : Float) (zs : List ℕ) (vs : List Float) where
+  abbrev walked : List (Entry Float)
+  walked = kept (productRule k) (overlay copyDensity 29 l r)
+
+  product-left : (n : ℕ) (zs₁ : List ℕ) (vs₁ : List Float) (zs₂ : List ℕ) (vs₂ : List Float) → Added (acceptDensities M T) 29 0 walked zs vs n zs₁ vs₁
+      → length zs₁ ≡ length zs → length vs₁ ≡ length vs → zs₂ ≡ take n zs₁ ++ replicate (length zs₁ - n) 0 → vs₂ ≡ take n vs₁ ++ replicate (length vs₁ - n) 0·0
+      → (DensitiesAdded.Added n, zs₂, vs₂) ≡ productOver 29 none l r M T k zs vs
+  unfolding productOver held readOnto
+  product-left n zs₁ vs₁ zs₂ vs₂ w lz lv ez ev =
+      let accept = acceptDensities M T in
+      let product = definedProduct accept k 29 l r in
+      let is : held 29 n zs₁ vs₁ ≡ reverse product = w .is ∙ run-gives-combined (productRule k) accept copyDensity 29 l r in
+      let q : n ≡ length (held 29 n zs₁ vs₁) = sym (held-length 29 nan n zs₁ vs₁ (w .stands)) in
+      ap (λ (m : ℕ). (DensitiesAdded.Added m, zs₂, vs₂)) q
+      ∙ ap (λ (u : Buffers Float × Answer Refusal ℕ). (densitiesAdded (u .1), u .0 .zuniqs, u .0 .values)) (map-left (densityCalls 29 M T) nan (record { number = 0; zuniqs = zs; values = vs }) (reverse product) n zs₁ vs₁ zs₂ vs₂ (w .stands) is lz lv ez ev)
+
+  -- what is known once the cells have been walked and counted
+  abbrev after : Option Refusal
+  after = orElse (finiteRefusal walked) (placesRefusal (length zs) (length walked))
+
+  -- The cells have been counted, with the answer x: the buffers are as they were.
+  module _ (zs′ : List ℕ) (vs′ : List Float) (x : Cells) (o : CellsOutcome Pass.Count 0 walked zs vs x zs′ vs′) where
+    -- A product that is not finite is refused,
+    pub product-not-finite : x ≡ Cells.NotFinite → (DensitiesAdded.Refused Refusal.ProductNotFinite, zs′, vs′) ≡ productOver 29 after l r M T k zs vs
+    unfolding productOver finiteRefusal
+    product-not-finite q =
+        let c : CellsOutcome Pass.Count 0 walked zs vs Cells.NotFinite zs′ vs′ = rw q at o in
+        rw (c .0) (λ i. (DensitiesAdded.Refused Refusal.ProductNotFinite, c .1 .0 i, c .1 .1 i))
+
+    module _ (cells : ℕ) (q : x ≡ Cells.Number cells) where
+      counted : CellsOutcome Pass.Count 0 walked zs vs (Cells.Number cells) zs′ vs′
+      counted = rw q at o
+
+      -- so is too little space,
+      pub product-no-space : length zs′ < cells → (DensitiesAdded.Refused Refusal.NoSpace, zs′, vs′) ≡ productOver 29 after l r M T k zs vs
+      unfolding productOver finiteRefusal placesRefusal
+      product-no-space u =
+          let c = counted in
+          rw (c .0, lt-ltb (length zs) (length walked) (omega (arith, u, c .1 .0, ap length (c .1 .1)))) (λ i. (DensitiesAdded.Refused Refusal.NoSpace, c .1 .1 i, c .1 .2 i))
+
+      -- otherwise there is room,
+      pub product-room : cells ≤ length zs′ → length zs ≡ length vs → (length walked ≤ length zs′) × (length walked ≤ length vs′)
+      product-room u e = let c = counted in (omega (arith, u, c .1 .0), omega (arith, u, c .1 .0, e, ap length (c .1 .1), ap length (c .1 .2)))
+
+      module _ (y : Cells) (zs₁ : List ℕ) (vs₁ : List Float) (w : CellsOutcome (Pass.Merge M T) 0 walked zs′ vs′ y zs₁ vs₁) where
+        -- all products are finite,
+        pub product-finite : y ≡ Cells.NotFinite → ⊥
+        product-finite e =
+            let d : CellsOutcome (Pass.Merge M T) 0 walked zs′ vs′ Cells.NotFinite zs₁ vs₁ = rw e at w in
+            true≢false (sym (d .0) ∙ counted .0)
+
+        module _ (n : ℕ) (e : y ≡ Cells.Number n) where
+          merged : Added (acceptDensities M T) 29 0 walked zs′ vs′ n zs₁ vs₁
+          merged = let d : CellsOutcome (Pass.Merge M T) 0 walked zs′ vs′ (Cells.Number n) zs₁ vs₁ = rw e at w in d .1
+
+          pub product-within : (n ≤ length zs₁) × (n ≤ length vs₁)
+          product-within = (merged .stands .zuniqs, merged .stands .values)
+
+          -- and the product is made.
+          pub product-made : cells ≤ length zs′ → (zs₂ : List ℕ) (vs₂ : List Float) → length zs₁ ≡ length zs′ → length vs₁ ≡ length vs′
+              → zs₂ ≡ take n zs₁ ++ replicate (length zs₁ - n) 0 → vs₂ ≡ take n vs₁ ++ replicate (length vs₁ - n) 0·0 → (DensitiesAdded.Added n, zs₂, vs₂) ≡ productOver 29 after l r M T k zs vs
+          unfolding finiteRefusal placesRefusal
+          product-made u zs₂ vs₂ lz lv ez ev =
+              let c = counted in
+              let a : Added (acceptDensities M T) 29 0 walked zs vs n zs₁ vs₁ = rw (c .1 .1, c .1 .2) at merged in
+              rw (c .0, le-ltb (length zs) (length walked) (omega (arith, u, c .1 .0, ap length (c .1 .1)))) (product-left n zs₁ vs₁ zs₂ vs₂ a (lz ∙ ap length (c .1 .1)) (lv ∙ ap length (c .1 .2)) ez ev)
+
+-- The product of two maps is the same over the larger of their depths as over all depths.
+module _ (l r : Given Float) (k : Float) (places values : ℕ) (p : Passed l r places values) where
+  abbrev D : ℕ
+  D = resultDepth l r
+
+  product-walked : kept (productRule k) (overlay copyDensity 29 (entries l) (entries r)) ≡ productKept k l r
+  product-walked = ap (kept (productRule k)) (overlay-deeper copyDensity (entries l) (entries r) D (left-shallow l r _ _ p) (right-shallow l r _ _ p) 29 (result-deep l r _ _ p))
+
+  product-deeper : (accept : Merger Float) → definedProduct accept k 29 (entries l) (entries r) ≡ definedProduct accept k D (entries l) (entries r)
+  unfolding combined
+  product-deeper accept =
+      ap (definedMap accept 29) product-walked
+      ∙ sym (defined-map-deeper D 29 (result-deep l r _ _ p) accept (productKept k l r) (kept-overlay-rises (productRule k) accept copyDensity D (entries l) (entries r)))
+
+  product-over-all : (o : Option Refusal) (M : ℕ) (T : Float) (zs : List ℕ) (vs : List Float) → productOver 29 o (entries l) (entries r) M T k zs vs ≡ productOver D o (entries l) (entries r) M T k zs vs
+  unfolding productOver
+  product-over-all o M T zs vs = rw (product-deeper (acceptDensities M T)) refl
+
+-- ---- the call
+module _ (l r : Given Float) (M : ℕ) (T k : Float) (zs : List ℕ) (vs : List Float) where
+  pub product-passes : productInputRefusal l r M T k (length zs) (length vs) ≡ none → Passed l r (length zs) (length vs)
+  unfolding productInputRefusal
+  product-passes e =
+      let a = or-else-none (settingsRefusal (l .depth) (r .depth) M T) _ e in
+      let b = or-else-none (factorRefusal k) _ (a .1) in
+      let c = or-else-none (pairsRefusal (length (l .zuniqs)) (length (l .values)) (length (r .zuniqs)) (length (r .values)) (length zs) (length vs)) _ (b .1) in
+      let d = or-else-none (mapsRefusal l r) _ (c .1) in
+      passed l r M T (length zs) (length vs) (a .0) (c .0) (d .0)
+
+  pub product-refused : (x : Refusal) → productInputRefusal l r M T k (length zs) (length vs) ≡ some x → (DensitiesAdded.Refused x, zs, vs) ≡ productDensities l r M T k zs vs
+  unfolding productDensities productRefusal productOver
+  product-refused x e = rw e refl
+
+  pub product-holds : Passed l r (length zs) (length vs) → Holds (l .zuniqs) (l .values) × Holds (r .zuniqs) (r .values)
+  product-holds p = (
+    record { paired = p .left-paired; valid = p .left-valid .valid; rises = left-rises l r _ _ p },
+    record { paired = p .right-paired; valid = p .right-valid .valid; rises = right-rises l r _ _ p },
+  )
+
+  pub product-done : productInputRefusal l r M T k (length zs) (length vs) ≡ none → (t : DensitiesAdded × List ℕ × List Float)
+      → t ≡ productOver 29 (after (entries l) (entries r) M T k zs vs) (entries l) (entries r) M T k zs vs → t ≡ productDensities l r M T k zs vs
+  unfolding productDensities productRefusal
+  product-done e t q =
+      let p = product-passes e in
+      rw e (q ∙ ap (λ (c : List (Entry Float)). productOver 29 (orElse (finiteRefusal c) (placesRefusal (length zs) (length c))) (entries l) (entries r) M T k zs vs) (product-walked l r k _ _ p) ∙ product-over-all l r k _ _ p _ M T zs vs)
