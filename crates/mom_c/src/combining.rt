@@ -1,12 +1,14 @@
-// Combining maps from C: the pool of two count maps.
+// Combining maps from C: the pool of two count maps and the product of two density maps.
 ghost use mathlib.Core.Path.{_≡_};
-ghost use Rattle.combine.specs.Pool.{Given, poolCounts};
-ghost use Rattle.mom_c.specs.Words.{countsAddedWord};
+ghost use Rattle.combine.specs.Pool.{Given, poolCounts, productDensities};
+ghost use Rattle.mom_c.specs.Words.{countsAddedWord, densitiesAddedWord};
 use crate::ACCEPTED;
 use crate::refused;
 use crate::word;
 use build::counts::CountsAdded;
+use build::densities::DensitiesAdded;
 use combine::pool::pool;
+use combine::product::product;
 
 // Pools two count maps into two output buffers: the number of entries, and their total.
 #[no_mangle]
@@ -45,5 +47,40 @@ pub extern "C" fn mom_pool(
             word(ACCEPTED, entries as u64)
         }
         CountsAdded::Refused(refusal) => refused(refusal),
+    }
+}
+
+// Multiplies two density maps into two output buffers: the number of entries.
+#[no_mangle]
+pub extern "C" fn mom_product(
+    left_depth: u8,
+    left_zuniqs: &[u64],
+    left_densities: &[f64],
+    right_depth: u8,
+    right_zuniqs: &[u64],
+    right_densities: &[f64],
+    depth_threshold: u8,
+    chi2_threshold: f64,
+    k: f64,
+    zuniqs: &mut [u64],
+    densities: &mut [f64],
+) -> u64
+    ensures { λ r. ⌜ (r, now (zuniqs .exit), now (densities .exit)) ≡ densitiesAddedWord (productDensities (record { depth = «left_depth»; zuniqs = now («left_zuniqs» .entry); values = now («left_densities» .entry) }) (record { depth = «right_depth»; zuniqs = now («right_zuniqs» .entry); values = now («right_densities» .entry) }) «depth_threshold» «chi2_threshold» k (now (zuniqs .entry)) (now (densities .entry))) ⌝ }
+{
+    match product(
+        left_depth,
+        left_zuniqs,
+        left_densities,
+        right_depth,
+        right_zuniqs,
+        right_densities,
+        depth_threshold,
+        chi2_threshold,
+        k,
+        zuniqs,
+        densities,
+    ) {
+        DensitiesAdded::Added { entries } => word(ACCEPTED, entries as u64),
+        DensitiesAdded::Refused(refusal) => refused(refusal),
     }
 }
