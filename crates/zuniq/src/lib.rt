@@ -46,40 +46,6 @@ pub enum Overlap {
     Refused(Refusal),
 }
 
-// 12 * 4^depth.
-const N_HASH: [u64; 30] = [
-    12,
-    48,
-    192,
-    768,
-    3072,
-    12288,
-    49152,
-    196608,
-    786432,
-    3145728,
-    12582912,
-    50331648,
-    201326592,
-    805306368,
-    3221225472,
-    12884901888,
-    51539607552,
-    206158430208,
-    824633720832,
-    3298534883328,
-    13194139533312,
-    52776558133248,
-    211106232532992,
-    844424930131968,
-    3377699720527872,
-    13510798882111488,
-    54043195528445952,
-    216172782113783808,
-    864691128455135232,
-    3458764513820540928,
-];
-
 // The number of cells at a depth.
 pub fn n_hash(depth: u8) -> CellNumber
     ensures { λ r. ⌜ r ≡ cellNumber 29 depth ⌝ }
@@ -90,11 +56,44 @@ pub fn n_hash(depth: u8) -> CellNumber
     CellNumber::Cells(n_hash_unchecked(depth))
 }
 
+// The table of 12 * 4^depth. It is a `match` and no array because the compiler keeps the numbers of a
+// `match` in read-only memory, whereas a constant array is built on the stack at each use.
 pub fn n_hash_unchecked(depth: u8) -> u64
     requires { ⌜ depth ≤ 29 ⌝ }
     ensures { λ r. ⌜ r ≡ nHash depth ⌝ }
 {
-    N_HASH[depth as usize]
+    match depth {
+        0 => 12,
+        1 => 48,
+        2 => 192,
+        3 => 768,
+        4 => 3072,
+        5 => 12288,
+        6 => 49152,
+        7 => 196608,
+        8 => 786432,
+        9 => 3145728,
+        10 => 12582912,
+        11 => 50331648,
+        12 => 201326592,
+        13 => 805306368,
+        14 => 3221225472,
+        15 => 12884901888,
+        16 => 51539607552,
+        17 => 206158430208,
+        18 => 824633720832,
+        19 => 3298534883328,
+        20 => 13194139533312,
+        21 => 52776558133248,
+        22 => 211106232532992,
+        23 => 844424930131968,
+        24 => 3377699720527872,
+        25 => 13510798882111488,
+        26 => 54043195528445952,
+        27 => 216172782113783808,
+        28 => 864691128455135232,
+        _ => 3458764513820540928,
+    }
 }
 
 // Zuniqs in a u64; the constants are those of the source's trait `ZUniqHashT`.
