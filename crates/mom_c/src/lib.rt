@@ -1,4 +1,6 @@
-// The C functions: section 7 of the scope, on numbers and byte slices.
+// The C functions: section 7 of the scope, on numbers and byte slices. `ingest` has those of the Rust
+// ingest process: rows, and the check and lookup of maps that come as rows. Those here are for the
+// comparison with the original and the benchmark; the check and lookup take the zuniqs of a map.
 //
 // A call answers one word. Its high byte says what it is: 0 accepted, 1 to 64 the number of a
 // refusal, above 64 one of the named answers below. Its low 56 bits hold the answer, or the place
@@ -11,6 +13,9 @@ ghost use Rattle.merger.specs.Merge.{countMerger, densityMerger};
 ghost use Rattle.mom.specs.Map.{mapCheck};
 ghost use Rattle.build.specs.Counts.{addCounts};
 ghost use Rattle.build.specs.Densities.{addDensities};
+
+mod ingest;
+
 use build::counts::CountsAdded;
 use build::counts::add_counts;
 use build::densities::DensitiesAdded;
@@ -197,7 +202,7 @@ fn fault_kind(fault: Fault) -> u8
 
 // Whether a map is valid, or its first fault with the place.
 #[no_mangle]
-pub extern "C" fn mom_check_is_mom(depth: u8, zuniqs: &[u64]) -> u64
+pub extern "C" fn mom_check_is_mom_zuniqs(depth: u8, zuniqs: &[u64]) -> u64
     ensures { λ r. ⌜ r ≡ mapCheckWord (mapCheck 29 depth (now (zuniqs .entry))) ⌝ }
 {
     match check_is_mom(depth, zuniqs) {
@@ -209,7 +214,7 @@ pub extern "C" fn mom_check_is_mom(depth: u8, zuniqs: &[u64]) -> u64
 
 // The place of the entry in which a cell of the map's depth lies, or that there is none.
 #[no_mangle]
-pub extern "C" fn mom_get_cell_containing(depth: u8, zuniqs: &[u64], zuniq: u64) -> u64
+pub extern "C" fn mom_get_cell_containing_zuniqs(depth: u8, zuniqs: &[u64], zuniq: u64) -> u64
     ensures { λ r. ⌜ ContainingIs depth (now (zuniqs .entry)) «zuniq» r ⌝ }
 {
     match get_cell_containing(depth, zuniqs, zuniq) {
@@ -221,7 +226,11 @@ pub extern "C" fn mom_get_cell_containing(depth: u8, zuniqs: &[u64], zuniq: u64)
 
 // The entries that overlap a query: the place of the first, and their number.
 #[no_mangle]
-pub extern "C" fn mom_get_overlapped_cells(zuniqs: &[u64], zuniq: u64, number: &mut usize) -> u64
+pub extern "C" fn mom_get_overlapped_cells_zuniqs(
+    zuniqs: &[u64],
+    zuniq: u64,
+    number: &mut usize,
+) -> u64
     ensures { λ r. ⌜ RunIs (now (zuniqs .entry)) «zuniq» (now (number .entry)) r (now (number .exit)) ⌝ }
 {
     match get_overlapped_run(zuniqs, zuniq) {

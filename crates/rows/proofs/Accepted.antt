@@ -13,7 +13,7 @@ use Rattle.rows.specs.declared.Rows.{Rows}
 use Rattle.rows.specs.Rows.{Column, rowSize, rowsBytes, filled, lengths, othersDiffer, differ, places, rowsToRead, rowsToWrite, readAs, readRows, writeAs, writeRows}
 
 -- a refusal is no number of rows
-refused : (r : Refusal) (n : ℕ) → Rows.Refused r ≡ Rows.Rows n → ⊥
+pub refused : (r : Refusal) (n : ℕ) → Rows.Refused r ≡ Rows.Rows n → ⊥
 refused r n e = let z : _≡_ {A = ℕ} 0 1 = cc in omega arith
 
 -- ---- reading

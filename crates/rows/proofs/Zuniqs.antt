@@ -1,13 +1,15 @@
 -- Reading the zuniqs of count rows alone. Assumes nothing.
-use mathlib.Core.Path.{_≡_, refl, sym, _∙_}
+use mathlib.Core.Path.{_≡_, refl, ap, sym, _∙_}
 use mathlib.Core.List.{List, [], _∷_, _++_}
-use Prim.Native.Nat.{ℕ, _*_, _≤_}
-use lib.ListN.{length, drop}
+use Prim.Native.Nat.{ℕ, _*_, _/_, _≤_}
+use native.Mathlib.Nat.{le-add-right}
+use lib.ListN.{length, take, drop, length-append}
+use lib.Seq.{take-append-seam}
 use borrow.Author.Tests.{eq-eqb}
 use Rattle.zuniq.specs.declared.refusal.Refusal.{Refusal}
 use Rattle.rows.specs.declared.Rows.{Rows}
 use Rattle.rows.specs.Rows.{numbersIn, zuniqsOf, othersDiffer, differ, places, rowsToRead, readZuniqsAs, readZuniqs}
-use Rattle.rows.proofs.Accepted.{readable}
+use Rattle.rows.proofs.Accepted.{readable, refused}
 use Rattle.rows.proofs.Loops.{length-numbers, read-pair-fits}
 
 -- One buffer is as good as two of its length.
@@ -15,9 +17,10 @@ alone : (k bytes n : ℕ) → rowsToRead k bytes (n ∷ []) ≡ rowsToRead k byt
 unfolding rowsToRead differ othersDiffer places
 alone k bytes n = rw (eq-eqb n n refl) refl
 
--- n rows have n zuniqs.
-pub length-zuniqs : (bytes : List ℕ) (n : ℕ) → length (numbersIn 12 0 8 bytes n) ≡ n
-length-zuniqs = length-numbers 12 0 8
+-- There are as many zuniqs as rows.
+all-zuniqs : (bytes : List ℕ) → length (zuniqsOf bytes) ≡ length bytes / 12
+unfolding zuniqsOf
+all-zuniqs bytes = length-numbers 12 0 8 bytes (length bytes / 12)
 
 module _ (bytes zs : List ℕ) where
   pub read-zuniqs-refused : (r : Refusal) → rowsToRead 12 (length bytes) (length zs ∷ length zs ∷ []) ≡ Rows.Refused r → (Rows.Refused r, zs) ≡ readZuniqs zs bytes
@@ -32,3 +35,36 @@ module _ (bytes zs : List ℕ) where
   read-zuniqs-read n e =
       let all = readable 12 (length bytes) (length zs ∷ length zs ∷ []) n e .rows in
       rw (alone 12 (length bytes) (length zs) ∙ e) (rw all refl)
+
+  -- What an accepted call says: how many rows there are, and that so many places hold their zuniqs.
+  pub record Read (n : ℕ) (out : List ℕ) : Type 0 where
+    pub rows : rowsToRead 12 (length bytes) (length zs ∷ []) ≡ Rows.Rows n
+    pub zuniqs : take n out ≡ zuniqsOf bytes
+    pub held : n ≤ length out
+
+  pub was-read : (n : ℕ) (out : List ℕ) → (Rows.Rows n, out) ≡ readZuniqs zs bytes → Read n out
+  unfolding readZuniqsAs readZuniqs
+  was-read n out = go (rowsToRead 12 (length bytes) (length zs ∷ [])) refl
+    where
+      go : (a : Rows) → rowsToRead 12 (length bytes) (length zs ∷ []) ≡ a → (Rows.Rows n, out) ≡ readZuniqsAs a zs bytes → Read n out
+      go (Rows.Rows m) q e =
+          let same : Rows.Rows n ≡ Rows.Rows m = ap (λ (p : Rows × List ℕ). p .0) e in
+          let n-is : n ≡ m = cc in
+          let out-is : out ≡ zuniqsOf bytes ++ drop m zs = ap (λ (p : Rows × List ℕ). p .1) e in
+          let fits = readable 12 (length bytes) (length zs ∷ []) m q in
+          let long : length (zuniqsOf bytes) ≡ n = all-zuniqs bytes ∙ fits .rows ∙ sym n-is in
+          record {
+            rows = q ∙ sym same;
+            zuniqs = ap (take n) out-is ∙ rw (← long) (take-append-seam (zuniqsOf bytes) (drop m zs));
+            held = rw (out-is, length-append, long) (le-add-right n (length (drop m zs)));
+          }
+      go (Rows.Refused r) q e = absurd (refused r n (sym (ap (λ (p : Rows × List ℕ). p .0) e)))
+
+  -- What a refused call says.
+  pub was-refused : (r : Refusal) (out : List ℕ) → (Rows.Refused r, out) ≡ readZuniqs zs bytes → rowsToRead 12 (length bytes) (length zs ∷ []) ≡ Rows.Refused r
+  unfolding readZuniqsAs readZuniqs
+  was-refused r out = go (rowsToRead 12 (length bytes) (length zs ∷ [])) refl
+    where
+      go : (a : Rows) → rowsToRead 12 (length bytes) (length zs ∷ []) ≡ a → (Rows.Refused r, out) ≡ readZuniqsAs a zs bytes → rowsToRead 12 (length bytes) (length zs ∷ []) ≡ Rows.Refused r
+      go (Rows.Rows m) q e = absurd (refused r m (ap (λ (p : Rows × List ℕ). p .0) e))
+      go (Rows.Refused s) q e = q ∙ sym (ap (λ (p : Rows × List ℕ). p .0) e)

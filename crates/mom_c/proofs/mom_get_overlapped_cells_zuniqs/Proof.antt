@@ -1,9 +1,9 @@
--- `mom_get_overlapped_cells` meets its contract. Assumes nothing.
+-- `mom_get_overlapped_cells_zuniqs` meets its contract. Assumes nothing.
 use mathlib.Core.Path.{refl}
 use Rattle.mom_c.specs.Words.{runWord}
 use borrow.Author.Needs.{needs}
-use Rattle.mom_c.proofs.mom_get_overlapped_cells.Statement.{statement}
-use Rattle.mom_c.proofs.mom_get_overlapped_cells.Tie as tie
+use Rattle.mom_c.proofs.mom_get_overlapped_cells_zuniqs.Statement.{statement}
+use Rattle.mom_c.proofs.mom_get_overlapped_cells_zuniqs.Tie as tie
 
 get-overlapped-run-requires : tie.Need-get-overlapped-run-requires
 get-overlapped-run-requires c κs = search needs
@@ -28,8 +28,8 @@ returns-2 : tie.Need-returns-2
 unfolding runWord
 returns-2 c = record { answer = c .before .before .before .before .get-overlapped-run .result; is = c .before .before .before .before .get-overlapped-run .ensures; told = rw (c .before .before .refusal .given .1, c .refused .ensures) refl }
 
-pub mom-get-overlapped-cells-spec : {M : Type 1} → statement M
-mom-get-overlapped-cells-spec =
+pub mom-get-overlapped-cells-zuniqs-spec : {M : Type 1} → statement M
+mom-get-overlapped-cells-zuniqs-spec =
     tie.close
     (tie.spec
     get-overlapped-run-requires

@@ -1,9 +1,9 @@
--- `mom_check_is_mom` meets its contract. Assumes nothing.
+-- `mom_check_is_mom_zuniqs` meets its contract. Assumes nothing.
 use mathlib.Core.Path.{refl}
 use Rattle.mom_c.specs.Words.{mapCheckWord}
 use borrow.Author.Needs.{needs}
-use Rattle.mom_c.proofs.mom_check_is_mom.Statement.{statement}
-use Rattle.mom_c.proofs.mom_check_is_mom.Tie as tie
+use Rattle.mom_c.proofs.mom_check_is_mom_zuniqs.Statement.{statement}
+use Rattle.mom_c.proofs.mom_check_is_mom_zuniqs.Tie as tie
 
 check-is-mom-requires : tie.Need-check-is-mom-requires
 check-is-mom-requires c κs = search needs
@@ -41,8 +41,8 @@ returns-3 : tie.Need-returns-3
 unfolding mapCheckWord
 returns-3 c = rw (← c .before .before .before .before .check-is-mom .ensures, c .before .before .refusal .given .1, c .refused .ensures) refl
 
-pub mom-check-is-mom-spec : {M : Type 1} → statement M
-mom-check-is-mom-spec =
+pub mom-check-is-mom-zuniqs-spec : {M : Type 1} → statement M
+mom-check-is-mom-zuniqs-spec =
     tie.close
     (tie.spec
     check-is-mom-requires

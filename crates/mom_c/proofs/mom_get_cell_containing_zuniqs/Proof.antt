@@ -1,9 +1,9 @@
--- `mom_get_cell_containing` meets its contract. Assumes nothing.
+-- `mom_get_cell_containing_zuniqs` meets its contract. Assumes nothing.
 use mathlib.Core.Path.{refl, _∙_, ap, sym}
 use Rattle.mom_c.specs.Words.{containingWord}
 use borrow.Author.Needs.{needs}
-use Rattle.mom_c.proofs.mom_get_cell_containing.Statement.{statement}
-use Rattle.mom_c.proofs.mom_get_cell_containing.Tie as tie
+use Rattle.mom_c.proofs.mom_get_cell_containing_zuniqs.Statement.{statement}
+use Rattle.mom_c.proofs.mom_get_cell_containing_zuniqs.Tie as tie
 
 get-cell-containing-requires : tie.Need-get-cell-containing-requires
 get-cell-containing-requires c κs = search needs
@@ -38,8 +38,8 @@ returns-3 : tie.Need-returns-3
 unfolding containingWord
 returns-3 c = record { answer = c .before .before .before .before .get-cell-containing .result; is = c .before .before .before .before .get-cell-containing .ensures; told = rw (c .before .before .refusal .given .1) (c .refused .ensures) }
 
-pub mom-get-cell-containing-spec : {M : Type 1} → statement M
-mom-get-cell-containing-spec =
+pub mom-get-cell-containing-zuniqs-spec : {M : Type 1} → statement M
+mom-get-cell-containing-zuniqs-spec =
     tie.close
     (tie.spec
     get-cell-containing-requires

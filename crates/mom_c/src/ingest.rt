@@ -1,0 +1,160 @@
+// The C functions that the Rust ingest process calls: rows, densities, and the check and lookup of a
+// map that comes as count rows in bytes, at most 4,096 of them.
+//
+// Refused: a depth over 29 (number 1); paired buffers that differ in length, and bytes to be read
+// that are no whole number of rows (4); too little space, and more than 4,096 rows of a map (11); a
+// query that is no zuniq, or in `mom_get_cell_containing` not of the map's depth (12).
+ghost use mathlib.Core.Path.{_≡_};
+ghost use Rattle.rows.specs.Rows.{countRows, densityRows, readRows, writeRows};
+ghost use Rattle.rows.specs.Densities.{densityOfCount, densityOfPattern, patternOfDensity};
+ghost use Rattle.mom_c.specs.Words.{mapCheckWord};
+ghost use Rattle.mom_c.specs.Ingest.{rowsWord, told, countDensityWord, patternDensityWord, densityPatternWord, checkRows, ContainingInRows, RunInRows};
+use crate::ACCEPTED;
+use crate::NOTHING;
+use crate::mom_check_is_mom_zuniqs;
+use crate::mom_get_cell_containing_zuniqs;
+use crate::mom_get_overlapped_cells_zuniqs;
+use crate::refused;
+use crate::word;
+use rows::Rows;
+use rows::density::CountDensity;
+use rows::density::DensityPattern;
+use rows::density::PatternDensity;
+use rows::density::density_of_count;
+use rows::density::density_of_pattern;
+use rows::density::pattern_of_density;
+use rows::read_count_rows;
+use rows::read_density_rows;
+use rows::read_zuniqs;
+use rows::write_count_rows;
+use rows::write_density_rows;
+use zuniq::Zuniq64;
+use zuniq::refusal::Refusal;
+
+// A map comes as at most so many rows.
+const MAX_ROWS: usize = 4096;
+
+fn rows_word(rows: Rows) -> u64
+    ensures { λ r. ⌜ r ≡ rowsWord «rows» ⌝ }
+{
+    match rows {
+        Rows::Rows(number) => word(ACCEPTED, number as u64),
+        Rows::Refused(refusal) => refused(refusal),
+    }
+}
+
+// Reads count rows into two buffers: the number of rows.
+#[no_mangle]
+pub extern "C" fn mom_read_count_rows(bytes: &[u8], zuniqs: &mut [u64], counts: &mut [u32]) -> u64
+    ensures { λ r. ⌜ (r, countRows (now (zuniqs .exit)) (now (counts .exit))) ≡ told (readRows (countRows (now (zuniqs .entry)) (now (counts .entry))) (now (bytes .entry))) ⌝ }
+{
+    rows_word(read_count_rows(bytes, zuniqs, counts))
+}
+
+// Reads density rows into two buffers, densities as their 64-bit patterns: the number of rows.
+#[no_mangle]
+pub extern "C" fn mom_read_density_rows(
+    bytes: &[u8],
+    zuniqs: &mut [u64],
+    patterns: &mut [u64],
+) -> u64
+    ensures { λ r. ⌜ (r, densityRows (now (zuniqs .exit)) (now (patterns .exit))) ≡ told (readRows (densityRows (now (zuniqs .entry)) (now (patterns .entry))) (now (bytes .entry))) ⌝ }
+{
+    rows_word(read_density_rows(bytes, zuniqs, patterns))
+}
+
+// Writes count rows from two buffers: the number of rows.
+#[no_mangle]
+pub extern "C" fn mom_write_count_rows(zuniqs: &[u64], counts: &[u32], bytes: &mut [u8]) -> u64
+    ensures { λ r. ⌜ (r, now (bytes .exit)) ≡ told (writeRows (countRows (now (zuniqs .entry)) (now (counts .entry))) (now (bytes .entry))) ⌝ }
+{
+    rows_word(write_count_rows(zuniqs, counts, bytes))
+}
+
+// Writes density rows from two buffers, densities as their 64-bit patterns: the number of rows.
+#[no_mangle]
+pub extern "C" fn mom_write_density_rows(zuniqs: &[u64], patterns: &[u64], bytes: &mut [u8]) -> u64
+    ensures { λ r. ⌜ (r, now (bytes .exit)) ≡ told (writeRows (densityRows (now (zuniqs .entry)) (now (patterns .entry))) (now (bytes .entry))) ⌝ }
+{
+    rows_word(write_density_rows(zuniqs, patterns, bytes))
+}
+
+// The density of a count.
+#[no_mangle]
+pub extern "C" fn mom_density_of_count(depth: u8, count: u32, density: &mut f64) -> u64
+    ensures { λ r. ⌜ (r, now (density .exit)) ≡ countDensityWord (densityOfCount 29 count depth) (now (density .entry)) ⌝ }
+{
+    match density_of_count(depth, count) {
+        CountDensity::Density(x) => {
+            *density = x;
+            word(ACCEPTED, 0)
+        }
+        CountDensity::Refused(refusal) => refused(refusal),
+    }
+}
+
+// The density of a pattern, or that there is none.
+#[no_mangle]
+pub extern "C" fn mom_density_of_pattern(pattern: u64, density: &mut f64) -> u64
+    ensures { λ r. ⌜ (r, now (density .exit)) ≡ patternDensityWord (densityOfPattern pattern) (now (density .entry)) ⌝ }
+{
+    let PatternDensity::Density(x) = density_of_pattern(pattern) else {
+        return word(NOTHING, 0);
+    };
+    *density = x;
+    word(ACCEPTED, 0)
+}
+
+// The pattern of a density, or that there is none.
+#[no_mangle]
+pub extern "C" fn mom_pattern_of_density(density: f64, pattern: &mut u64) -> u64
+    ensures { λ r. ⌜ (r, now (pattern .exit)) ≡ densityPatternWord (patternOfDensity density) (now (pattern .entry)) ⌝ }
+{
+    let DensityPattern::Pattern(bits) = pattern_of_density(density) else {
+        return word(NOTHING, 0);
+    };
+    *pattern = bits;
+    word(ACCEPTED, 0)
+}
+
+// Whether count rows are a valid map, or its first fault with the place.
+#[no_mangle]
+pub extern "C" fn mom_check_is_mom(depth: u8, bytes: &[u8]) -> u64
+    ensures { λ r. ⌜ r ≡ mapCheckWord (checkRows depth (now (bytes .entry))) ⌝ }
+{
+    if depth > Zuniq64::MAX_DEPTH {
+        return refused(Refusal::DepthOutOfRange);
+    }
+    let mut zuniqs = [0; MAX_ROWS];
+    match read_zuniqs(bytes, &mut zuniqs) {
+        Rows::Rows(rows) => mom_check_is_mom_zuniqs(depth, &zuniqs[..rows]),
+        Rows::Refused(refusal) => refused(refusal),
+    }
+}
+
+// The row of the entry in which a cell of the map's depth lies, or that there is none.
+#[no_mangle]
+pub extern "C" fn mom_get_cell_containing(depth: u8, bytes: &[u8], zuniq: u64) -> u64
+    ensures { λ r. ⌜ ContainingInRows depth (now (bytes .entry)) «zuniq» r ⌝ }
+{
+    if depth > Zuniq64::MAX_DEPTH {
+        return refused(Refusal::DepthOutOfRange);
+    }
+    let mut zuniqs = [0; MAX_ROWS];
+    match read_zuniqs(bytes, &mut zuniqs) {
+        Rows::Rows(rows) => mom_get_cell_containing_zuniqs(depth, &zuniqs[..rows], zuniq),
+        Rows::Refused(refusal) => refused(refusal),
+    }
+}
+
+// The rows of the entries that overlap a query: the first, and their number.
+#[no_mangle]
+pub extern "C" fn mom_get_overlapped_cells(bytes: &[u8], zuniq: u64, number: &mut usize) -> u64
+    ensures { λ r. ⌜ RunInRows (now (bytes .entry)) «zuniq» (now (number .entry)) r (now (number .exit)) ⌝ }
+{
+    let mut zuniqs = [0; MAX_ROWS];
+    match read_zuniqs(bytes, &mut zuniqs) {
+        Rows::Rows(rows) => mom_get_overlapped_cells_zuniqs(&zuniqs[..rows], zuniq, number),
+        Rows::Refused(refusal) => refused(refusal),
+    }
+}
