@@ -3,7 +3,8 @@
 //! A cell is a depth, 0 to 29, and a hash below N(depth) = 12 × 4^depth (HEALPix, nested). Its
 //! zuniq is (2 × hash + 1) × 4^(29 − depth). The values of four children of one cell may be merged
 //! into one of their parent. A map of a depth is given by its zuniqs: it is valid where each is a
-//! valid zuniq, none is of a deeper cell, they rise strictly and no two of their cells overlap.
+//! valid zuniq, none is of a deeper cell, they rise strictly and no two of their cells overlap. In
+//! [`rows`] it comes as bytes.
 //! Nothing here panics, whatever the arguments: a call that can't be answered is refused, with the
 //! number and the place of the scope's table.
 //!
@@ -19,6 +20,7 @@
 //! ```
 
 mod raw;
+pub mod rows;
 
 use std::{error::Error, fmt};
 
@@ -187,6 +189,14 @@ pub fn get_overlapped_cells(zuniqs: &[u64], zuniq: u64) -> Result<(usize, &[u64]
     let mut number = 0;
     let first = raw::accepted(raw::get_overlapped_cells(zuniqs, zuniq, &mut number))? as usize;
     Ok((first, &zuniqs[first..first + number]))
+}
+
+/// The density of a count in a cell of that depth: the count by the cell's area, 4π / N(depth).
+/// Refused by 1: the depth is over 29.
+pub fn density_of_count(depth: u8, count: u32) -> Result<f64, Refusal> {
+    let mut density = 0.0;
+    raw::accepted(raw::rows::mom_density_of_count(depth, count, &mut density))?;
+    Ok(density)
 }
 
 /// Adds cells of that depth, given by `hashes` and their counts in `batch`, to the map in the first

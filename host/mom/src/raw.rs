@@ -1,5 +1,8 @@
 //! The functions of libmom_c.a as host/include/mom.h declares them, and the word that each answers.
-//! A new function is declared here and gets its safe form in lib.rs.
+//! A new function is declared here and gets its safe form in lib.rs. Those of the ingest process are
+//! in raw/rows.rs and rows.rs.
+
+pub mod rows;
 
 use crate::{Fault, MapCheck, Refusal};
 
@@ -30,9 +33,10 @@ unsafe extern "C" {
         m3: f64,
         answer: &mut f64,
     ) -> u64;
-    fn mom_check_is_mom(depth: u8, zuniqs: *const u64, len: usize) -> u64;
-    fn mom_get_cell_containing(depth: u8, zuniqs: *const u64, len: usize, zuniq: u64) -> u64;
-    fn mom_get_overlapped_cells(
+    fn mom_check_is_mom_zuniqs(depth: u8, zuniqs: *const u64, len: usize) -> u64;
+    fn mom_get_cell_containing_zuniqs(depth: u8, zuniqs: *const u64, len: usize, zuniq: u64)
+        -> u64;
+    fn mom_get_overlapped_cells_zuniqs(
         zuniqs: *const u64,
         len: usize,
         zuniq: u64,
@@ -73,17 +77,17 @@ unsafe extern "C" {
 
 pub fn check_is_mom(depth: u8, zuniqs: &[u64]) -> u64 {
     // SAFETY: pointer and length are those of one slice.
-    unsafe { mom_check_is_mom(depth, zuniqs.as_ptr(), zuniqs.len()) }
+    unsafe { mom_check_is_mom_zuniqs(depth, zuniqs.as_ptr(), zuniqs.len()) }
 }
 
 pub fn get_cell_containing(depth: u8, zuniqs: &[u64], zuniq: u64) -> u64 {
     // SAFETY: pointer and length are those of one slice.
-    unsafe { mom_get_cell_containing(depth, zuniqs.as_ptr(), zuniqs.len(), zuniq) }
+    unsafe { mom_get_cell_containing_zuniqs(depth, zuniqs.as_ptr(), zuniqs.len(), zuniq) }
 }
 
 pub fn get_overlapped_cells(zuniqs: &[u64], zuniq: u64, number: &mut usize) -> u64 {
     // SAFETY: pointer and length are those of one slice.
-    unsafe { mom_get_overlapped_cells(zuniqs.as_ptr(), zuniqs.len(), zuniq, number) }
+    unsafe { mom_get_overlapped_cells_zuniqs(zuniqs.as_ptr(), zuniqs.len(), zuniq, number) }
 }
 
 #[allow(clippy::too_many_arguments)]
