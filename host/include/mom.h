@@ -1,5 +1,6 @@
-/* The C functions of libmom_c.a: cells of multi-order maps, their zuniqs, the mergers, the map
- * check, lookup and building from counts and from densities.
+/* The C functions of libmom_c.a: rows and the check and lookup of maps that come as rows, which an
+ * ingest process calls; then cells of multi-order maps, their zuniqs, the mergers, the check and
+ * lookup of a map's zuniqs, and building from counts and from densities.
  *
  * A cell is a depth d, 0 to 29, and a hash h below N(d) = 12 * 4^d (HEALPix, nested). Its zuniq is
  * (2h + 1) * 4^(29 - d), a u64; no other u64 is a valid zuniq. The four cells that it consists of
@@ -9,12 +10,16 @@
  *
  *     0          accepted; the low 56 bits hold the answer, where the function says one
  *     1 to 64    refused: the code is the refusal's number, the low 56 bits its place, from 0
- *     MOM_NONE   there is no such cell
+ *     MOM_NONE   there is no such cell, entry or density
  *     MOM_KEPT   the four children are kept, not merged
  *     67 to 70   the map is faulty: the code is the fault, the low 56 bits its place, from 0
  *
  * A map of depth D is given by its zuniqs. It is valid where each is a valid zuniq, none is of a
  * cell deeper than D, they rise strictly and no two of their cells overlap.
+ *
+ * As bytes a map is rows, one for each entry: the zuniq in 8 bytes, then the count in 4 or the
+ * density in 8, each little-endian, with nothing between rows. A density is handed over as its
+ * 64-bit pattern, so that every pattern comes back, those of NaNs too.
  *
  * What doesn't fit into the word goes through a pointer. A function says when it writes such a
  * number: by a refusal, and by MOM_NONE, it is left as it was. A slice is its pointer and then its
@@ -64,6 +69,66 @@ static inline uint8_t mom_code(uint64_t word) { return (uint8_t)(word >> 56); }
  * a fault. */
 static inline uint64_t mom_value(uint64_t word) { return word & UINT64_C(0x00ffffffffffffff); }
 
+/* The bytes of a row, and how many rows a map may have in the check and lookup. */
+#define MOM_COUNT_ROW 12
+#define MOM_DENSITY_ROW 16
+#define MOM_MAX_ROWS 4096
+
+/* ---- The ingest process */
+
+/* Reads count rows into two buffers. The value is the number of rows; places past them stay. Rows
+ * are not checked as maps. By a refusal both buffers are left as they were.
+ * Refuses by 4: zl isn't cl, or bl is no multiple of 12; then by 11: there are more rows than zl. */
+uint64_t mom_read_count_rows(const uint8_t *bytes, size_t bl, uint64_t *zuniqs, size_t zl,
+                             uint32_t *counts, size_t cl);
+
+/* The same for density rows: the densities' patterns.
+ * Refuses by 4: zl isn't pl, or bl is no multiple of 16; then by 11: there are more rows than zl. */
+uint64_t mom_read_density_rows(const uint8_t *bytes, size_t bl, uint64_t *zuniqs, size_t zl,
+                               uint64_t *patterns, size_t pl);
+
+/* Writes count rows to the front of bytes. The value is the number of rows; bytes past them stay. By
+ * a refusal the bytes are left as they were.
+ * Refuses by 4: zl isn't cl; then by 11: bl is below 12 * zl. */
+uint64_t mom_write_count_rows(const uint64_t *zuniqs, size_t zl, const uint32_t *counts, size_t cl,
+                              uint8_t *bytes, size_t bl);
+
+/* The same for density rows, from the densities' patterns.
+ * Refuses by 4: zl isn't pl; then by 11: bl is below 16 * zl. */
+uint64_t mom_write_density_rows(const uint64_t *zuniqs, size_t zl, const uint64_t *patterns,
+                                size_t pl, uint8_t *bytes, size_t bl);
+
+/* *density = the density of a count in a cell of that depth, count / ((4 pi) / N(depth)).
+ * Refuses by 1: the depth is over 29. */
+uint64_t mom_density_of_count(uint8_t depth, uint32_t count, double *density);
+
+/* *density = the density that the pattern stands for; MOM_NONE where that is NaN, infinite or below 0
+ * (-0 is none of these). Refuses nothing. */
+uint64_t mom_density_of_pattern(uint64_t pattern, double *density);
+
+/* *pattern = the pattern of the density; MOM_NONE as above. Refuses nothing. */
+uint64_t mom_pattern_of_density(double density, uint64_t *pattern);
+
+/* Whether count rows are a valid map of that depth: MOM_ACCEPTED, or the first faulty row and the
+ * first fault there of: not a zuniq, too deep, not above its predecessor, overlapping it.
+ * Refuses by 1: the depth is over 29; then by 4: bl is no multiple of 12; then by 11: there are more
+ * than 4096 rows. */
+uint64_t mom_check_is_mom(uint8_t depth, const uint8_t *bytes, size_t bl);
+
+/* The value is the row of the map's entry over the cell of the zuniq; MOM_NONE where no entry is.
+ * The map isn't checked: where it isn't valid, the answer may be any entry that is a valid zuniq
+ * and overlaps the cell, or MOM_NONE.
+ * Refuses by 1, 4 and 11 as the check; then by 12: zuniq isn't a valid zuniq of that depth. */
+uint64_t mom_get_cell_containing(uint8_t depth, const uint8_t *bytes, size_t bl, uint64_t zuniq);
+
+/* The entries of the map that overlap the cell of the zuniq, which stand one after the other: the
+ * value is the row of the first and *number = how many they are; both 0 where there are none. The
+ * map isn't checked: where it isn't valid, they may be any that are valid zuniqs and overlap it.
+ * Refuses by 4 and 11 as the check; then by 12: zuniq isn't a valid zuniq. */
+uint64_t mom_get_overlapped_cells(const uint8_t *bytes, size_t bl, uint64_t zuniq, size_t *number);
+
+/* ---- Cells, mergers, zuniqs of maps, building */
+
 /* *n_hash = N(depth), the number of cells at that depth.
  * Refuses by 1: the depth is over 29. */
 uint64_t mom_n_hash(uint8_t depth, uint64_t *n_hash);
@@ -101,20 +166,21 @@ uint64_t mom_chi2_density_merger(uint8_t parent_depth, uint8_t depth_threshold,
 /* Whether the len zuniqs are a valid map of that depth: MOM_ACCEPTED, or the first faulty place and
  * the first fault there of: not a zuniq, too deep, not above its predecessor, overlapping it.
  * Refuses by 1: the depth is over 29. */
-uint64_t mom_check_is_mom(uint8_t depth, const uint64_t *zuniqs, size_t len);
+uint64_t mom_check_is_mom_zuniqs(uint8_t depth, const uint64_t *zuniqs, size_t len);
 
 /* The value is the place of the map's entry over the cell of the zuniq; MOM_NONE where no entry is.
  * The map isn't checked: where it isn't valid, the answer may be any entry that is a valid zuniq
  * and overlaps the cell, or MOM_NONE.
  * Refuses by 1: the depth is over 29; then by 12: zuniq isn't a valid zuniq of that depth. */
-uint64_t mom_get_cell_containing(uint8_t depth, const uint64_t *zuniqs, size_t len, uint64_t zuniq);
+uint64_t mom_get_cell_containing_zuniqs(uint8_t depth, const uint64_t *zuniqs, size_t len,
+                                        uint64_t zuniq);
 
 /* The entries of the map that overlap the cell of the zuniq, which stand one after the other: the
  * value is the place of the first and *number = how many they are; both 0 where there are none. The
  * map isn't checked: where it isn't valid, they may be any that are valid zuniqs and overlap it.
  * Refuses by 12: zuniq isn't a valid zuniq. */
-uint64_t mom_get_overlapped_cells(const uint64_t *zuniqs, size_t len, uint64_t zuniq,
-                                  size_t *number);
+uint64_t mom_get_overlapped_cells_zuniqs(const uint64_t *zuniqs, size_t len, uint64_t zuniq,
+                                         size_t *number);
 
 /* Adds cells of that depth, given by hashes and their counts in batch, to the map in the first held
  * places of zuniqs and counts. Each cell is appended; while the last four entries are the children

@@ -2,6 +2,7 @@
  * there is no cell, leaves the caller's numbers alone. Prints `N passed, M failed`. */
 #include <math.h>
 #include <stdio.h>
+#include <string.h>
 
 #include "mom.h"
 
@@ -18,6 +19,111 @@ static void expect(int holds, const char *what) {
 
 static int answers(uint64_t word, uint8_t code, uint64_t value) {
     return mom_code(word) == code && mom_value(word) == value;
+}
+
+/* Two rows, then a byte more: the zuniqs 1 and 3 with the counts 258 and 4. */
+static const uint8_t count_rows[25] = {1, 0, 0, 0, 0, 0, 0, 0, 2, 1, 0, 0,
+                                       3, 0, 0, 0, 0, 0, 0, 0, 4, 0, 0, 0, 9};
+
+static void rows(void) {
+    uint64_t zuniqs[3] = {5, 5, 5}, patterns[3] = {5, 5, 5}, pattern = 5;
+    uint32_t counts[3] = {5, 5, 5};
+    uint8_t bytes[34];
+    double density = 5.5;
+    const uint64_t nan = UINT64_C(0xfff8000000000001);
+
+    expect(answers(mom_read_count_rows(count_rows, 25, zuniqs, 3, counts, 3),
+                   MOM_LENGTHS_DIFFER, 0),
+           "reading a byte more than two rows");
+    expect(answers(mom_read_count_rows(count_rows, 24, zuniqs, 3, counts, 2),
+                   MOM_LENGTHS_DIFFER, 0),
+           "reading into two lengths");
+    expect(answers(mom_read_count_rows(count_rows, 24, zuniqs, 1, counts, 1), MOM_NO_SPACE, 0) &&
+           zuniqs[0] == 5 && counts[0] == 5, "reading into too few places");
+    expect(answers(mom_read_count_rows(count_rows, 24, zuniqs, 3, counts, 3), MOM_ACCEPTED, 2) &&
+           zuniqs[0] == 1 && zuniqs[1] == 3 && zuniqs[2] == 5 && counts[0] == 258 &&
+           counts[1] == 4 && counts[2] == 5, "reading two rows into three places");
+
+    memset(bytes, 7, sizeof bytes);
+    expect(answers(mom_write_count_rows(zuniqs, 2, counts, 3, bytes, 34), MOM_LENGTHS_DIFFER, 0),
+           "writing from two lengths");
+    expect(answers(mom_write_count_rows(zuniqs, 2, counts, 2, bytes, 23), MOM_NO_SPACE, 0) &&
+           bytes[0] == 7, "writing to too few bytes");
+    expect(answers(mom_write_count_rows(zuniqs, 2, counts, 2, bytes, 34), MOM_ACCEPTED, 2) &&
+           memcmp(bytes, count_rows, 24) == 0 && bytes[24] == 7, "writing two rows");
+
+    patterns[0] = nan;
+    expect(answers(mom_write_density_rows(zuniqs, 2, patterns, 3, bytes, 34),
+                   MOM_LENGTHS_DIFFER, 0),
+           "writing densities from two lengths");
+    expect(answers(mom_write_density_rows(zuniqs, 2, patterns, 2, bytes, 31), MOM_NO_SPACE, 0) &&
+           memcmp(bytes, count_rows, 24) == 0, "writing densities to too few bytes");
+    expect(answers(mom_write_density_rows(zuniqs, 2, patterns, 2, bytes, 34), MOM_ACCEPTED, 2) &&
+           bytes[8] == 1 && bytes[15] == 255 && bytes[16] == 3 && bytes[24] == 5 && bytes[32] == 7,
+           "writing two density rows");
+    patterns[0] = patterns[1] = 6;
+    expect(answers(mom_read_density_rows(bytes, 33, zuniqs, 3, patterns, 3), MOM_LENGTHS_DIFFER, 0),
+           "reading a byte more than two density rows");
+    expect(answers(mom_read_density_rows(bytes, 32, zuniqs, 1, patterns, 1), MOM_NO_SPACE, 0) &&
+           patterns[0] == 6, "reading densities into too few places");
+    expect(answers(mom_read_density_rows(bytes, 32, zuniqs, 3, patterns, 3), MOM_ACCEPTED, 2) &&
+           patterns[0] == nan && patterns[1] == 5 && patterns[2] == 5 && zuniqs[1] == 3,
+           "reading two density rows, a NaN among them");
+
+    expect(answers(mom_density_of_count(30, 1, &density), MOM_DEPTH_OUT_OF_RANGE, 0) &&
+           density == 5.5, "a density at depth 30");
+    expect(answers(mom_density_of_count(0, 0, &density), MOM_ACCEPTED, 0) && density == 0,
+           "the density of 0");
+    expect(answers(mom_density_of_count(0, 1, &density), MOM_ACCEPTED, 0) &&
+           density == 1.0 / (4.0 * 3.141592653589793 / 12.0), "the density of 1");
+    density = 5.5;
+    expect(answers(mom_density_of_pattern(nan, &density), MOM_NONE, 0) && density == 5.5,
+           "the density of a NaN's pattern");
+    expect(answers(mom_density_of_pattern(UINT64_C(1) << 62, &density), MOM_ACCEPTED, 0) &&
+           density == 2, "the density of 2's pattern");
+    expect(answers(mom_pattern_of_density(-1, &pattern), MOM_NONE, 0) && pattern == 5,
+           "the pattern of -1");
+    expect(answers(mom_pattern_of_density(-0.0, &pattern), MOM_ACCEPTED, 0) &&
+           pattern == UINT64_C(1) << 63, "the pattern of -0");
+}
+
+static void maps_of_rows(void) {
+    static uint8_t many[12 * (MOM_MAX_ROWS + 1)];
+    const uint64_t base = UINT64_C(1) << 58;
+    size_t number = 5, row;
+    uint64_t last;
+
+    for (row = 0; row <= MOM_MAX_ROWS; row++) {
+        many[12 * row] = (uint8_t)(2 * row + 1);
+        many[12 * row + 1] = (uint8_t)((2 * row + 1) >> 8);
+    }
+    last = 2 * MOM_MAX_ROWS - 1;
+    expect(answers(mom_check_is_mom(30, count_rows, 25), MOM_DEPTH_OUT_OF_RANGE, 0) &&
+           answers(mom_check_is_mom(29, count_rows, 25), MOM_LENGTHS_DIFFER, 0) &&
+           answers(mom_check_is_mom(29, many, sizeof many), MOM_NO_SPACE, 0),
+           "refused checks of rows");
+    expect(answers(mom_check_is_mom(29, many, sizeof many - 12), MOM_ACCEPTED, 0) &&
+           answers(mom_check_is_mom(29, many, 0), MOM_ACCEPTED, 0) &&
+           answers(mom_check_is_mom(28, many, 24), MOM_FAULT_TOO_DEEP, 0),
+           "checks of 4096, no and two rows");
+
+    expect(answers(mom_get_cell_containing(30, count_rows, 25, 0), MOM_DEPTH_OUT_OF_RANGE, 0) &&
+           answers(mom_get_cell_containing(29, count_rows, 25, 0), MOM_LENGTHS_DIFFER, 0) &&
+           answers(mom_get_cell_containing(29, many, sizeof many, 0), MOM_NO_SPACE, 0) &&
+           answers(mom_get_cell_containing(29, count_rows, 24, base), MOM_NOT_A_ZUNIQ, 0),
+           "refused containing in rows");
+    expect(answers(mom_get_cell_containing(29, many, sizeof many - 12, last), MOM_ACCEPTED, 4095) &&
+           answers(mom_get_cell_containing(29, many, sizeof many - 12, last + 2), MOM_NONE, 0),
+           "containing in 4096 rows");
+
+    expect(answers(mom_get_overlapped_cells(count_rows, 25, 0, &number), MOM_LENGTHS_DIFFER, 0) &&
+           answers(mom_get_overlapped_cells(many, sizeof many, 0, &number), MOM_NO_SPACE, 0) &&
+           answers(mom_get_overlapped_cells(count_rows, 24, 0, &number), MOM_NOT_A_ZUNIQ, 0) &&
+           number == 5, "refused overlapped in rows");
+    expect(answers(mom_get_overlapped_cells(many, sizeof many - 12, base, &number),
+                   MOM_ACCEPTED, 0) && number == MOM_MAX_ROWS, "overlapped in 4096 rows");
+    expect(answers(mom_get_overlapped_cells(count_rows, 24, 3, &number), MOM_ACCEPTED, 1) &&
+           number == 1, "the entry 3 of two rows");
 }
 
 int main(void) {
@@ -85,30 +191,33 @@ int main(void) {
     expect(answers(mom_chi2_density_merger(0, 0, 0, 0, -0.0, 0, 2, &answer), MOM_ACCEPTED, 0) &&
            answer == 0.5, "densities 0, -0, 0, 2 at T = 0");
 
-    expect(answers(mom_check_is_mom(30, map, 4), MOM_DEPTH_OUT_OF_RANGE, 0), "a check at depth 30");
-    expect(answers(mom_check_is_mom(1, map, 0), MOM_ACCEPTED, 0), "a check of no entries");
-    expect(answers(mom_check_is_mom(1, map, 3), MOM_ACCEPTED, 0), "a check of three entries");
-    expect(answers(mom_check_is_mom(1, map, 4), MOM_FAULT_NOT_ABOVE, 3), "a check of four");
-    expect(answers(mom_check_is_mom(0, map, 4), MOM_FAULT_TOO_DEEP, 0), "a check at depth 0");
-    expect(answers(mom_check_is_mom(1, faulty, 2), MOM_FAULT_OVERLAPPING, 1), "an overlap");
-    expect(answers(mom_check_is_mom(1, &none, 1), MOM_FAULT_NOT_A_ZUNIQ, 0), "a check of 2");
+    expect(answers(mom_check_is_mom_zuniqs(30, map, 4), MOM_DEPTH_OUT_OF_RANGE, 0),
+           "a check at depth 30");
+    expect(answers(mom_check_is_mom_zuniqs(1, map, 0), MOM_ACCEPTED, 0), "a check of no entries");
+    expect(answers(mom_check_is_mom_zuniqs(1, map, 3), MOM_ACCEPTED, 0),
+           "a check of three entries");
+    expect(answers(mom_check_is_mom_zuniqs(1, map, 4), MOM_FAULT_NOT_ABOVE, 3), "a check of four");
+    expect(answers(mom_check_is_mom_zuniqs(0, map, 4), MOM_FAULT_TOO_DEEP, 0),
+           "a check at depth 0");
+    expect(answers(mom_check_is_mom_zuniqs(1, faulty, 2), MOM_FAULT_OVERLAPPING, 1), "an overlap");
+    expect(answers(mom_check_is_mom_zuniqs(1, &none, 1), MOM_FAULT_NOT_A_ZUNIQ, 0), "a check of 2");
 
-    expect(answers(mom_get_cell_containing(30, map, 3, 0), MOM_DEPTH_OUT_OF_RANGE, 0),
+    expect(answers(mom_get_cell_containing_zuniqs(30, map, 3, 0), MOM_DEPTH_OUT_OF_RANGE, 0),
            "containing at depth 30");
-    expect(answers(mom_get_cell_containing(1, map, 3, base), MOM_NOT_A_ZUNIQ, 0),
+    expect(answers(mom_get_cell_containing_zuniqs(1, map, 3, base), MOM_NOT_A_ZUNIQ, 0),
            "containing, asked another depth");
-    expect(answers(mom_get_cell_containing(1, map, 3, 11 * first), MOM_ACCEPTED, 2),
+    expect(answers(mom_get_cell_containing_zuniqs(1, map, 3, 11 * first), MOM_ACCEPTED, 2),
            "the entry over (1, 5)");
-    expect(answers(mom_get_cell_containing(1, map, 3, 5 * first), MOM_NONE, 0),
+    expect(answers(mom_get_cell_containing_zuniqs(1, map, 3, 5 * first), MOM_NONE, 0),
            "the entry over (1, 2)");
 
-    expect(answers(mom_get_overlapped_cells(map, 3, 2, &number), MOM_NOT_A_ZUNIQ, 0) &&
+    expect(answers(mom_get_overlapped_cells_zuniqs(map, 3, 2, &number), MOM_NOT_A_ZUNIQ, 0) &&
            number == 5, "overlapped, asked 2");
-    expect(answers(mom_get_overlapped_cells(map, 3, base, &number), MOM_ACCEPTED, 0) &&
+    expect(answers(mom_get_overlapped_cells_zuniqs(map, 3, base, &number), MOM_ACCEPTED, 0) &&
            number == 2, "the entries in (0, 0)");
-    expect(answers(mom_get_overlapped_cells(map, 3, 9 * first, &number), MOM_ACCEPTED, 2) &&
+    expect(answers(mom_get_overlapped_cells_zuniqs(map, 3, 9 * first, &number), MOM_ACCEPTED, 2) &&
            number == 1, "the entry over (1, 4)");
-    expect(answers(mom_get_overlapped_cells(map, 3, 5 * base, &number), MOM_ACCEPTED, 0) &&
+    expect(answers(mom_get_overlapped_cells_zuniqs(map, 3, 5 * base, &number), MOM_ACCEPTED, 0) &&
            number == 0, "the entries in (0, 2)");
 
     expect(answers(mom_add_counts(0, 0, 3.5, 0, zuniqs, 5, counts, 5, hashes, 4, batch, 4, &total),
@@ -158,6 +267,9 @@ int main(void) {
                                      1),
                    MOM_ACCEPTED, 1) && zuniqs[0] == base && densities[0] == 16 && zuniqs[1] == 0 &&
            densities[3] == 0, "adding the fourth density");
+
+    rows();
+    maps_of_rows();
 
     printf("%d passed, %d failed\n", passed, failed);
     return failed > 0;
