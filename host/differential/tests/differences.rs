@@ -7,7 +7,7 @@ use std::{
     panic::{catch_unwind, AssertUnwindSafe},
 };
 
-use mom::{Added, Fault, MapCheck, Refusal};
+use mom::{rows, Added, Fault, MapCheck, Refusal};
 use oracle::run;
 
 /// The first number past the last zuniq that doesn't end in 60 or more zeros.
@@ -456,4 +456,43 @@ fn add_densities_refuses_what_is_nan_infinite_or_below_0() {
     let merged = [(run::to_zuniq(0, 0), (-0.25f64).to_bits())];
     assert_eq!(original_densities(setting, &cells), merged);
     assert_densities_refused(setting, &cells, 9, 3);
+}
+
+// ---- Section 7: densities and rows
+
+#[test]
+fn density_of_count_refuses_where_the_original_panics() {
+    assert!(panics(|| run::density::<u64>(1, 30)));
+    assert_eq!(mom::density_of_count(30, 1), refused(1, 0));
+}
+
+/// The original drops it, and reads the rows before it.
+#[test]
+fn rows_refuse_a_short_last_row() {
+    let row = [1, 0, 0, 0, 0, 0, 0, 0, 9, 0, 0, 0];
+    let (mut zuniqs, mut counts, mut patterns) = ([7; 3], [7; 3], [7; 3]);
+    for short in 1..12 {
+        assert_eq!(run::read_rows::<u64, u32>(&row[..short]), []);
+        let longer = [&row[..], &row[..short]].concat();
+        assert_eq!(run::read_rows::<u64, u32>(&longer), [(1, 9)]);
+        for bytes in [&row[..short], &longer] {
+            let answer = rows::read_count_rows(bytes, &mut zuniqs, &mut counts);
+            assert_eq!(answer, refused(4, 0));
+        }
+    }
+    assert_eq!(run::read_rows::<u64, f64>(&row), []);
+    let answer = rows::read_density_rows(&row, &mut zuniqs, &mut patterns);
+    assert_eq!(answer, refused(4, 0));
+    assert_eq!((zuniqs, counts, patterns), ([7; 3], [7; 3], [7; 3]));
+}
+
+/// The original checks as many entries as there are whole rows.
+#[test]
+fn the_check_of_rows_refuses_a_short_last_row_and_more_than_4096() {
+    let row = |hash: u64| [&(2 * hash + 1).to_le_bytes()[..], &[0; 4]].concat();
+    let rows = |number| (0..number).flat_map(row).collect::<Vec<u8>>();
+    for (bytes, number) in [(rows(1)[..11].to_vec(), 4), (rows(4097), 11)] {
+        assert_eq!(run::rows_check_is_mom::<u64, u32>(29, &bytes), Ok(()));
+        assert_eq!(rows::check_is_mom(29, &bytes), refused(number, 0));
+    }
 }

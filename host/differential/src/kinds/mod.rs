@@ -7,10 +7,12 @@ mod check_is_mom;
 mod chi;
 mod count_merger;
 mod density_merger;
+mod density_of_count;
 mod from_zuniq;
 mod get_cell_containing;
 mod get_overlapped_cells;
 mod n_hash;
+mod rows;
 mod to_zuniq;
 
 use crate::{
@@ -24,10 +26,12 @@ pub use check_is_mom::CheckIsMom;
 pub use chi::{CountChi, DensityChi};
 pub use count_merger::CountMerger;
 pub use density_merger::DensityMerger;
+pub use density_of_count::DensityOfCount;
 pub use from_zuniq::FromZuniq;
 pub use get_cell_containing::GetCellContaining;
 pub use get_overlapped_cells::GetOverlappedCells;
 pub use n_hash::NHash;
+pub use rows::{ContainingInRows, Read, Write};
 pub use to_zuniq::ToZuniq;
 
 pub type AddCounts = Add<u32>;
@@ -59,4 +63,10 @@ pub static KINDS: &[Entry] = &[
     entry::<AddDensities>(),
     entry::<GetCellContaining>(),
     entry::<GetOverlappedCells>(),
+    entry::<DensityOfCount>(),
+    entry::<Read<u32>>(),
+    entry::<Read<u64>>(),
+    entry::<Write<u32>>(),
+    entry::<Write<u64>>(),
+    entry::<ContainingInRows>(),
 ];

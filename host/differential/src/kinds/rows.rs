@@ -1,0 +1,218 @@
+//! Rows of any bytes, and maps that come as rows. The original drops a short last row, which ours
+//! refuses, so that bytes to be read are whole rows here.
+
+use std::{fmt::Debug, marker::PhantomData};
+
+use mom::{rows, Refusal};
+use oracle::run;
+
+use crate::{
+    cells::{n_hash, Cell, DEPTH_MAX},
+    compare::Kind,
+    maps::{at_depth, Map},
+    random::Random,
+};
+
+/// What stands behind the zuniq in a row.
+pub trait Value: Copy + Debug + Default + Ord + Send + Sync {
+    const ROW: usize;
+    const READ: &'static str;
+    const WRITE: &'static str;
+
+    fn of_bits(bits: u64) -> Self;
+    fn read(bytes: &[u8], zuniqs: &mut [u64], values: &mut [Self]) -> Result<usize, Refusal>;
+    fn write(zuniqs: &[u64], values: &[Self], bytes: &mut [u8]) -> Result<usize, Refusal>;
+    fn original_read(bytes: &[u8]) -> Vec<(u64, Self)>;
+    fn original_write(entries: Vec<(u64, Self)>) -> (Vec<u8>, usize);
+}
+
+impl Value for u32 {
+    const ROW: usize = rows::COUNT_ROW;
+    const READ: &'static str = "read_count_rows";
+    const WRITE: &'static str = "write_count_rows";
+
+    fn of_bits(bits: u64) -> u32 {
+        bits as u32
+    }
+
+    fn read(bytes: &[u8], zuniqs: &mut [u64], values: &mut [u32]) -> Result<usize, Refusal> {
+        rows::read_count_rows(bytes, zuniqs, values)
+    }
+
+    fn write(zuniqs: &[u64], values: &[u32], bytes: &mut [u8]) -> Result<usize, Refusal> {
+        rows::write_count_rows(zuniqs, values, bytes)
+    }
+
+    fn original_read(bytes: &[u8]) -> Vec<(u64, u32)> {
+        run::read_rows(bytes)
+    }
+
+    fn original_write(entries: Vec<(u64, u32)>) -> (Vec<u8>, usize) {
+        run::write_rows(entries)
+    }
+}
+
+/// The pattern of a density.
+impl Value for u64 {
+    const ROW: usize = rows::DENSITY_ROW;
+    const READ: &'static str = "read_density_rows";
+    const WRITE: &'static str = "write_density_rows";
+
+    fn of_bits(bits: u64) -> u64 {
+        bits
+    }
+
+    fn read(bytes: &[u8], zuniqs: &mut [u64], values: &mut [u64]) -> Result<usize, Refusal> {
+        rows::read_density_rows(bytes, zuniqs, values)
+    }
+
+    fn write(zuniqs: &[u64], values: &[u64], bytes: &mut [u8]) -> Result<usize, Refusal> {
+        rows::write_density_rows(zuniqs, values, bytes)
+    }
+
+    fn original_read(bytes: &[u8]) -> Vec<(u64, u64)> {
+        let entries: Vec<(u64, f64)> = run::read_rows(bytes);
+        entries.iter().map(|(z, x)| (*z, x.to_bits())).collect()
+    }
+
+    fn original_write(entries: Vec<(u64, u64)>) -> (Vec<u8>, usize) {
+        let entries = entries.iter().map(|(z, p)| (*z, f64::from_bits(*p)));
+        run::write_rows(entries.collect())
+    }
+}
+
+/// Any number of bits, now and then all ones above them: so NaNs, infinities and zeros are frequent.
+fn any_bits(random: &mut Random) -> u64 {
+    let ones = match random.below(8) {
+        0 => 0x7ff0_0000_0000_0000,
+        1 => 0xfff0_0000_0000_0000,
+        _ => 0,
+    };
+    ones | random.bits() >> random.below(64)
+}
+
+const MOST_ROWS: u64 = 40;
+
+pub struct Read<V>(PhantomData<V>);
+
+impl<V: Value> Kind for Read<V> {
+    const NAME: &'static str = V::READ;
+    type Input = Vec<u8>;
+    /// The entries, and how many they are.
+    type Answer = Result<(Vec<(u64, V)>, usize), Refusal>;
+
+    /// One row in which one byte isn't 0.
+    fn small() -> impl Iterator<Item = Vec<u8>> {
+        (0..V::ROW).flat_map(|place| {
+            (0..=255).map(move |byte| {
+                let mut bytes = vec![0; V::ROW];
+                bytes[place] = byte;
+                bytes
+            })
+        })
+    }
+
+    fn random(random: &mut Random) -> Option<Vec<u8>> {
+        let length = random.below(MOST_ROWS) as usize * V::ROW;
+        Some((0..length).map(|_| any_bits(random) as u8).collect())
+    }
+
+    fn ours(bytes: &Vec<u8>) -> Self::Answer {
+        let most = bytes.len() / V::ROW;
+        let (mut zuniqs, mut values) = (vec![0; most], vec![V::default(); most]);
+        let number = V::read(bytes, &mut zuniqs, &mut values)?;
+        Ok((zuniqs.into_iter().zip(values).collect(), number))
+    }
+
+    fn original(bytes: &Vec<u8>) -> Self::Answer {
+        let entries = V::original_read(bytes);
+        let number = entries.len();
+        Ok((entries, number))
+    }
+}
+
+pub struct Write<V>(PhantomData<V>);
+
+impl<V: Value> Kind for Write<V> {
+    const NAME: &'static str = V::WRITE;
+    type Input = Vec<(u64, V)>;
+    /// The bytes, and how many were written: that is what the original counts.
+    type Answer = Result<(Vec<u8>, usize), Refusal>;
+
+    /// One row in which one bit is 1.
+    fn small() -> impl Iterator<Item = Vec<(u64, V)>> {
+        let zuniqs = (0..64).map(|bit| (1 << bit, V::of_bits(0)));
+        let values = (0..64).map(|bit| (0, V::of_bits(1 << bit)));
+        zuniqs.chain(values).map(|row| vec![row])
+    }
+
+    fn random(random: &mut Random) -> Option<Vec<(u64, V)>> {
+        let rows = 0..random.below(MOST_ROWS);
+        let row = |_| (any_bits(random), V::of_bits(any_bits(random)));
+        Some(rows.map(row).collect())
+    }
+
+    fn ours(entries: &Vec<(u64, V)>) -> Self::Answer {
+        let (zuniqs, values): (Vec<u64>, Vec<V>) = entries.iter().copied().unzip();
+        let mut bytes = vec![0; entries.len() * V::ROW];
+        let number = V::write(&zuniqs, &values, &mut bytes)?;
+        Ok((bytes, number * V::ROW))
+    }
+
+    fn original(entries: &Vec<(u64, V)>) -> Self::Answer {
+        Ok(V::original_write(entries.clone()))
+    }
+}
+
+/// The entry over a cell of the map's depth, in valid maps of rows.
+pub struct ContainingInRows;
+
+#[derive(Debug, PartialEq, Eq, PartialOrd, Ord)]
+pub struct Input {
+    map: Map,
+    /// At the map's depth.
+    query: Cell,
+}
+
+impl Input {
+    fn rows(&self) -> Vec<u8> {
+        let row = |(z, n): (u64, u32)| [&z.to_le_bytes()[..], &n.to_le_bytes()].concat();
+        self.map.entries().into_iter().flat_map(row).collect()
+    }
+}
+
+impl Kind for ContainingInRows {
+    const NAME: &'static str = "containing_in_rows";
+    type Input = Input;
+    /// The zuniq of the entry and its place, or none.
+    type Answer = Result<Option<(u64, u32)>, Refusal>;
+
+    fn small() -> impl Iterator<Item = Input> {
+        Map::small().flat_map(|map| {
+            let deepest = map.cells().iter().map(|cell| cell.depth).max();
+            let depth = deepest.unwrap_or(0);
+            (0..n_hash(depth)).map(move |hash| Input {
+                map: map.clone(),
+                query: Cell { depth, hash },
+            })
+        })
+    }
+
+    fn random(random: &mut Random) -> Option<Input> {
+        let depth = random.below(DEPTH_MAX as u64 + 1) as u8;
+        let map = Map::random(depth, random);
+        let query = at_depth(map.query(random), depth, random);
+        Some(Input { map, query })
+    }
+
+    fn ours(input: &Input) -> Self::Answer {
+        let Input { map, query } = input;
+        let row = rows::get_cell_containing(query.depth, &input.rows(), query.zuniq())?;
+        Ok(row.map(|row| (map.zuniqs()[row], row as u32)))
+    }
+
+    fn original(input: &Input) -> Self::Answer {
+        let Input { query, .. } = input;
+        Ok(run::rows_containing(query.depth, &input.rows(), query.zuniq()).unwrap())
+    }
+}
