@@ -4,8 +4,9 @@
 #
 #     host/run.sh [SECONDS [SEED]]
 #
-# First what needs the archive or the program alone: the C header, the crate `mom`, and the runs of
-# `mombuild` beside a reading of its rules. Then the live comparison
+# First what needs the archive or the program alone: the C header, the crate `mom`, the runs of
+# `mombuild` beside a reading of its rules, and random arguments for every call, for a sixth of
+# SECONDS, against a plain reading of the scope. Then the live comparison
 # with the original Rust, both where its arithmetic wraps (release) and where it panics (checked):
 # the tests of `oracle` and `differential`, and the comparison itself, for SECONDS in all (60) from
 # SEED (1). Last, that the stored answers in crates/replay/stdin are those that the original gives.
@@ -56,6 +57,11 @@ mombuild_tests() {
     cd mombuild && cargo test --quiet --no-fail-fast
 }
 
+# Six tests, on two cores at least.
+fuzz() {
+    cd mom && MOM_FUZZ_SECONDS=$(((seconds + 17) / 18)) cargo test --quiet --release --test fuzz -- --nocapture
+}
+
 stored_answers() {
     ./answers.sh > target/answers && cmp target/answers ../crates/replay/stdin &&
         echo "1 passed, 0 failed"
@@ -73,6 +79,7 @@ can_compare() {
 part "C header" c_header
 part "mom" mom_tests
 part "mombuild" mombuild_tests
+part "random arguments" fuzz
 if reason=$(can_compare); then
     for profile in release checked; do
         part "oracle and differential, $profile" \

@@ -1,0 +1,205 @@
+//! Arguments of all kinds, the same for the same seed: SplitMix64 (Steele, Lea and Flood 2014).
+
+use std::ops::Range;
+
+pub struct Draw(u64);
+
+/// The arguments of an add call but for the values, of which only the numbers are drawn.
+#[derive(Clone, Debug)]
+pub struct AddCall {
+    pub depth: u8,
+    pub m: u8,
+    pub t: f64,
+    pub held: usize,
+    pub zuniqs: Vec<u64>,
+    pub values: usize,
+    pub hashes: Vec<u64>,
+    pub batch: usize,
+}
+
+impl Draw {
+    pub fn new(seed: u64) -> Self {
+        Draw(seed)
+    }
+
+    fn bits(&mut self) -> u64 {
+        self.0 = self.0.wrapping_add(0x9e37_79b9_7f4a_7c15);
+        let z = (self.0 ^ self.0 >> 30).wrapping_mul(0xbf58_476d_1ce4_e5b9);
+        let z = (z ^ z >> 27).wrapping_mul(0x94d0_49bb_1331_11eb);
+        z ^ z >> 31
+    }
+
+    fn below(&mut self, n: usize) -> usize {
+        ((self.bits() as u128 * n as u128) >> 64) as usize
+    }
+
+    fn one_in(&mut self, n: usize) -> bool {
+        self.below(n) == 0
+    }
+
+    /// Few bits as often as many.
+    fn few_bits(&mut self) -> u64 {
+        let shift = self.below(64);
+        self.bits() >> shift
+    }
+
+    /// Mostly 0 to 29, and small, so that cells meet.
+    pub fn depth(&mut self) -> u8 {
+        match self.below(16) {
+            0 => self.bits() as u8,
+            1 => 28 + self.below(4) as u8,
+            2..=7 => self.below(30) as u8,
+            _ => self.below(3) as u8,
+        }
+    }
+
+    pub fn hash(&mut self) -> u64 {
+        self.few_bits()
+    }
+
+    pub fn count(&mut self) -> u32 {
+        match self.below(8) {
+            0 => u32::MAX - self.below(3) as u32,
+            1 => self.bits() as u32,
+            _ => self.below(6) as u32,
+        }
+    }
+
+    pub fn float(&mut self) -> f64 {
+        match self.below(8) {
+            0 => f64::from_bits(self.bits()),
+            1 => [f64::NAN, f64::INFINITY, f64::NEG_INFINITY, f64::MAX][self.below(4)],
+            2 => [0.0, -0.0, 5e-324, -5e-324][self.below(4)],
+            _ => self.below(64) as f64 / 8.0,
+        }
+    }
+
+    /// Mostly a density.
+    pub fn density(&mut self) -> f64 {
+        if self.one_in(16) {
+            return self.float();
+        }
+        self.below(64) as f64 / 4.0
+    }
+
+    /// Mostly that of a cell near the others.
+    pub fn zuniq(&mut self) -> u64 {
+        let depth = if self.one_in(4) {
+            self.below(30)
+        } else {
+            self.below(3)
+        };
+        let n = 12 << (2 * depth);
+        let few = if self.one_in(4) { n } else { n.min(8) };
+        let hash = self.below(few) as u64;
+        let zuniq = (2 * hash + 1) << (2 * (29 - depth));
+        match self.below(16) {
+            0 => self.few_bits(),
+            1 => zuniq ^ 1 << self.below(64),
+            _ => zuniq,
+        }
+    }
+
+    pub fn zuniqs(&mut self) -> Vec<u64> {
+        (0..self.below(12)).map(|_| self.zuniq()).collect()
+    }
+
+    pub fn counts(&mut self) -> Vec<u32> {
+        let number = self.below(12);
+        self.counts_of(number)
+    }
+
+    pub fn counts_of(&mut self, number: usize) -> Vec<u32> {
+        (0..number).map(|_| self.count()).collect()
+    }
+
+    pub fn densities_of(&mut self, number: usize) -> Vec<f64> {
+        (0..number).map(|_| self.density()).collect()
+    }
+
+    /// Mostly rising, and half of them without entries that overlap their predecessor.
+    pub fn map(&mut self) -> Vec<u64> {
+        let mut map = self.zuniqs();
+        if !self.one_in(4) {
+            map.sort();
+        }
+        if self.one_in(2) {
+            map.retain(|&z| super::plain::cell_of(z).is_some());
+            map.dedup_by(|z, before| super::plain::overlap_test(*z, *before) != Ok(false));
+        }
+        map
+    }
+
+    /// Any bytes, of a length that mostly is that of some rows.
+    pub fn bytes(&mut self) -> Vec<u8> {
+        let length = match self.below(4) {
+            0 => self.below(80),
+            1 => 16 * self.below(8),
+            _ => 12 * self.below(8),
+        };
+        (0..length).map(|_| self.bits() as u8).collect()
+    }
+
+    /// Count rows, now and then with a byte less or too many of them.
+    pub fn rows(&mut self) -> Vec<u8> {
+        if self.one_in(64) {
+            return vec![0; 12 * (4095 + self.below(4))];
+        }
+        let mut bytes = Vec::new();
+        for zuniq in self.map() {
+            bytes.extend(zuniq.to_le_bytes());
+            bytes.extend(self.count().to_le_bytes());
+        }
+        if self.one_in(8) {
+            bytes.pop();
+        }
+        bytes
+    }
+
+    /// A part of so many places: all but a few at both ends.
+    pub fn part(&mut self, places: usize) -> Range<usize> {
+        let first = self.below(3).min(places);
+        let end = places - self.below(3).min(places - first);
+        first..end
+    }
+
+    /// A map of cells of one depth and above it, and cells behind it; some of it wrong.
+    pub fn add_call(&mut self) -> AddCall {
+        let depth = self.depth();
+        let mut zuniqs = self.map();
+        let held = match self.below(8) {
+            0 => self.below(14),
+            _ => zuniqs.len(),
+        };
+        let n = 12u64 << (2 * depth.min(29));
+        let from = self.below(n.min(64) as usize) as u64;
+        let mut hashes: Vec<u64> = (0..self.below(20) as u64).map(|i| from + i).collect();
+        if self.one_in(4) {
+            let last = hashes.len();
+            hashes.extend((last..last + 1).map(|_| self.few_bits()));
+        }
+        if !self.one_in(4) {
+            zuniqs.truncate(self.below(2));
+        }
+        let free = match self.below(8) {
+            0 => self.below(24),
+            _ => hashes.len() + self.below(3),
+        };
+        zuniqs.extend((0..free).map(|_| 77));
+        let differ = |wrong: bool, n: usize| if wrong { n + 1 } else { n };
+        AddCall {
+            depth,
+            m: if self.one_in(2) { 0 } else { self.depth() },
+            t: self.float(),
+            held: if self.one_in(8) {
+                held
+            } else {
+                held.min(zuniqs.len() - free)
+            },
+            values: differ(self.one_in(32), zuniqs.len()),
+            batch: differ(self.one_in(32), hashes.len()),
+            zuniqs,
+            hashes,
+        }
+    }
+}

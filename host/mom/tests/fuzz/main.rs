@@ -1,0 +1,203 @@
+//! Every call on arguments of all kinds, most of them wrong somewhere: nothing crashes, every answer
+//! is what the scope says (`plain`, written as it is read there), and nothing outside the lent
+//! buffers changes.
+//!
+//! MOM_FUZZ_SECONDS gives each test its time; without it each makes a thousand rounds.
+
+mod draw;
+mod plain;
+
+use std::{
+    collections::BTreeSet,
+    env,
+    time::{Duration, Instant},
+};
+
+use draw::Draw;
+use mom::{rows, CountMerge, DensityMerge, MapCheck, Refusal};
+
+/// Rounds with one seed, the same in every run; how many there are in the time is printed.
+fn rounds(name: &str, mut round: impl FnMut(&mut Draw)) {
+    let seconds = env::var("MOM_FUZZ_SECONDS").ok();
+    let end = seconds.map(|s| Instant::now() + Duration::from_secs(s.parse().unwrap()));
+    let mut draw = Draw::new(1);
+    let mut number = 0;
+    while end.map_or(number < 1_000, |end| Instant::now() < end) {
+        round(&mut draw);
+        number += 1;
+    }
+    println!("fuzz of {name}: {number} rounds");
+}
+
+/// The numbers of the refusals that were met, 0 for an accepted call.
+#[derive(Default)]
+struct Met(BTreeSet<u8>);
+
+impl Met {
+    fn add<T>(&mut self, answer: &Result<T, Refusal>) {
+        self.0
+            .insert(answer.as_ref().err().map_or(0, |refusal| refusal.number));
+    }
+
+    /// Arguments that are all refused alike would test little.
+    fn assert_all(self, numbers: &[u8]) {
+        assert_eq!(self.0.into_iter().collect::<Vec<_>>(), numbers);
+    }
+}
+
+#[test]
+fn cells() {
+    rounds("cells", |draw| {
+        let (depth, hash) = (draw.depth(), draw.hash());
+        assert_eq!(mom::n_hash(depth), plain::cell_number(depth));
+        assert_eq!(mom::to_zuniq(depth, hash), plain::encode(depth, hash));
+        let (l, r) = (draw.zuniq(), draw.zuniq());
+        assert_eq!(mom::from_zuniq(l), plain::cell_of(l));
+        assert_eq!(mom::are_overlapping(l, r), plain::overlap_test(l, r));
+        let count = draw.count();
+        let density = mom::density_of_count(depth, count).map(f64::to_bits);
+        assert_eq!(
+            density,
+            plain::density_of_count(depth, count).map(f64::to_bits)
+        );
+        let x = draw.float();
+        let pattern = (!plain::invalid(x)).then_some(x.to_bits());
+        assert_eq!(rows::pattern_of_density(x), pattern);
+        let found = rows::density_of_pattern(x.to_bits());
+        assert_eq!(found.map(f64::to_bits), pattern);
+    });
+}
+
+#[test]
+fn mergers() {
+    // A NaN chi is one however its bits are.
+    let bits = |x: f64| if x.is_nan() { None } else { Some(x.to_bits()) };
+    rounds("mergers", |draw| {
+        let (p, m, t) = (draw.depth(), draw.depth(), draw.float());
+        let counts = [(); 4].map(|_| draw.count());
+        let answer = mom::chi2_count_merger(p, m, t, counts).map(|merge| match merge {
+            CountMerge::Merged(count) => (Some(count), None),
+            CountMerge::Kept(chi) => (None, bits(chi)),
+        });
+        let expected = plain::count_merger(p, m, t, counts).map(|merge| match merge {
+            Ok(count) => (Some(count), None),
+            Err(chi) => (None, bits(chi)),
+        });
+        assert_eq!(answer, expected, "{p} {m} {t} {counts:?}");
+
+        let densities = [(); 4].map(|_| draw.density());
+        let answer = mom::chi2_density_merger(p, m, t, densities).map(|merge| match merge {
+            DensityMerge::Merged(density) => (true, bits(density)),
+            DensityMerge::Kept(chi) => (false, bits(chi)),
+        });
+        let expected = plain::density_merger(p, m, t, densities).map(|merge| match merge {
+            Ok(density) => (true, bits(density)),
+            Err(chi) => (false, bits(chi)),
+        });
+        assert_eq!(answer, expected, "{p} {m} {t} {densities:?}");
+    });
+}
+
+#[test]
+fn maps() {
+    rounds("maps", |draw| {
+        let (depth, zuniqs, query) = (draw.depth(), draw.map(), draw.zuniq());
+        let check = mom::check_is_mom(depth, &zuniqs);
+        assert_eq!(check, plain::check(depth, &zuniqs), "{depth} {zuniqs:?}");
+        let containing = mom::get_cell_containing(depth, &zuniqs, query);
+        plain::assert_containing(depth, &zuniqs, query, containing);
+        let run = mom::get_overlapped_cells(&zuniqs, query);
+        let run = run.map(|(first, part)| {
+            assert_eq!(part, &zuniqs[first..first + part.len()]);
+            first..first + part.len()
+        });
+        plain::assert_overlapped(&zuniqs, query, run);
+    });
+}
+
+#[test]
+fn maps_of_rows() {
+    let mut met = Met::default();
+    rounds("maps of rows", |draw| {
+        let (depth, bytes, query) = (draw.depth(), draw.rows(), draw.zuniq());
+        let zuniqs = plain::map_rows(&bytes);
+        let first = |of_map: Result<(), _>| plain::depth(depth).and(of_map);
+        let check = rows::check_is_mom(depth, &bytes);
+        let containing = rows::get_cell_containing(depth, &bytes, query);
+        let run = rows::get_overlapped_cells(&bytes, query);
+        met.add(&containing);
+        match zuniqs {
+            Ok(zuniqs) => {
+                assert_eq!(check, plain::check(depth, &zuniqs));
+                plain::assert_containing(depth, &zuniqs, query, containing);
+                plain::assert_overlapped(&zuniqs, query, run);
+            }
+            Err(refusal) => {
+                let refused = first(Err(refusal));
+                assert_eq!(check.map(|_: MapCheck| ()), refused);
+                assert_eq!(containing.map(|_| ()), refused);
+                assert_eq!(run.map(|_| ()), Err(refusal));
+            }
+        }
+    });
+    met.assert_all(&[0, 1, 4, 11, 12]);
+}
+
+#[test]
+fn reading_and_writing_rows() {
+    let (mut read, mut written) = (Met::default(), Met::default());
+    rounds("rows", |draw| {
+        let bytes = draw.bytes();
+        let (mut z, mut n, mut p) = (draw.zuniqs(), draw.counts(), draw.zuniqs());
+        let (i, j, k) = (draw.part(z.len()), draw.part(n.len()), draw.part(p.len()));
+
+        let expected = plain::read_rows(&bytes, &z, &n, i.clone(), j.clone());
+        let answer = rows::read_count_rows(&bytes, &mut z[i.clone()], &mut n[j.clone()]);
+        read.add(&answer);
+        assert_eq!((answer, &z, &n), (expected.0, &expected.1, &expected.2));
+
+        let expected = plain::read_rows(&bytes, &z, &p, i.clone(), k.clone());
+        let answer = rows::read_density_rows(&bytes, &mut z[i.clone()], &mut p[k.clone()]);
+        assert_eq!((answer, &z, &p), (expected.0, &expected.1, &expected.2));
+
+        let mut out = draw.bytes();
+        let o = draw.part(out.len());
+        let expected = plain::write_rows(&z[i.clone()], &n[j.clone()], &out, o.clone());
+        let answer = rows::write_count_rows(&z[i.clone()], &n[j], &mut out[o.clone()]);
+        written.add(&answer);
+        assert_eq!((answer, &out), (expected.0, &expected.1));
+
+        let expected = plain::write_rows(&z[i.clone()], &p[k.clone()], &out, o.clone());
+        let answer = rows::write_density_rows(&z[i], &p[k], &mut out[o]);
+        assert_eq!((answer, &out), (expected.0, &expected.1));
+    });
+    read.assert_all(&[0, 4, 11]);
+    written.assert_all(&[0, 4, 11]);
+}
+
+#[test]
+fn adding() {
+    let (mut counts, mut densities) = (Met::default(), Met::default());
+    rounds("adding", |draw| {
+        let call = draw.add_call();
+        let (mut z, mut n) = (call.zuniqs.clone(), draw.counts_of(call.values));
+        let batch = draw.counts_of(call.batch);
+        let expected = plain::add_counts(&call, &z, &n, &batch);
+        let (d, m, t, held) = (call.depth, call.m, call.t, call.held);
+        let answer = mom::add_counts(d, m, t, held, &mut z, &mut n, &call.hashes, &batch)
+            .map(|added| (added.entries, added.total));
+        counts.add(&answer);
+        assert_eq!((answer, z, n), expected, "{call:?} {batch:?}");
+
+        let (mut z, mut x) = (call.zuniqs.clone(), draw.densities_of(call.values));
+        let batch = draw.densities_of(call.batch);
+        let expected = plain::add_densities(&call, &z, &x, &batch);
+        let answer = mom::add_densities(d, m, t, held, &mut z, &mut x, &call.hashes, &batch);
+        let bits = |xs: &[f64]| xs.iter().map(|x| x.to_bits()).collect::<Vec<_>>();
+        densities.add(&answer);
+        assert_eq!((answer, z), (expected.0, expected.1), "{call:?} {batch:?}");
+        assert_eq!(bits(&x), bits(&expected.2), "{call:?} {batch:?}");
+    });
+    counts.assert_all(&[0, 1, 2, 3, 4, 5, 7, 8, 10, 11]);
+    densities.assert_all(&[0, 1, 2, 3, 4, 5, 6, 7, 8, 9, 11]);
+}
