@@ -5,8 +5,8 @@
 #     host/run.sh [SECONDS [SEED]]
 #
 # First what needs the archive or the program alone: the C header, the crate `mom`, the runs of
-# `mombuild` beside a reading of its rules, and random arguments for every call, for a sixth of
-# SECONDS, against a plain reading of the scope. Then the live comparison
+# `mombuild` beside a reading of its rules, and every call on random arguments, for about a tenth of
+# SECONDS on two cores. Then the live comparison
 # with the original Rust, both where its arithmetic wraps (release) and where it panics (checked):
 # the tests of `oracle` and `differential`, and the comparison itself, for SECONDS in all (60) from
 # SEED (1). Last, that the stored answers in crates/replay/stdin are those that the original gives.
@@ -57,9 +57,10 @@ mombuild_tests() {
     cd mombuild && cargo test --quiet --no-fail-fast
 }
 
-# Six tests, on two cores at least.
+# Six tests, each for a thirtieth of the time.
 fuzz() {
-    cd mom && MOM_FUZZ_SECONDS=$(((seconds + 17) / 18)) cargo test --quiet --release --test fuzz -- --nocapture
+    cd mom && MOM_FUZZ_SECONDS=$(((seconds + 29) / 30)) \
+        cargo test --quiet --release --test fuzz -- --nocapture
 }
 
 stored_answers() {

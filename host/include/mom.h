@@ -109,7 +109,9 @@ uint64_t mom_density_of_pattern(uint64_t pattern, double *density);
 /* *pattern = the pattern of the density; MOM_NONE as above. Refuses nothing. */
 uint64_t mom_pattern_of_density(double density, uint64_t *pattern);
 
-/* Whether count rows are a valid map of that depth: MOM_ACCEPTED, or the first faulty row and the
+/* The three functions below read the map's zuniqs into 32 KiB of the stack first.
+ *
+ * Whether count rows are a valid map of that depth: MOM_ACCEPTED, or the first faulty row and the
  * first fault there of: not a zuniq, too deep, not above its predecessor, overlapping it.
  * Refuses by 1: the depth is over 29; then by 4: bl is no multiple of 12; then by 11: there are more
  * than 4096 rows. */
