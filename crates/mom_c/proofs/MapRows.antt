@@ -1,18 +1,15 @@
 -- A map that comes as rows: what reading its zuniqs into the places of an array says of the check and lookup. Assumes nothing.
-use mathlib.Core.Path.{_≡_, refl, sym}
-use mathlib.Core.Bool.{cond}
-use mathlib.Core.List.{List, [], _∷_}
+use mathlib.Core.Path.{_≡_, refl}
+use mathlib.Core.List.{List}
 use Prim.Native.Nat.{ℕ, _≤_, _<_}
-use lib.Dec.{ltb}
 use lib.ListN.{length, take}
 use borrow.Author.Tests.{le-ltb, lt-ltb}
 use Rattle.zuniq.specs.declared.refusal.Refusal.{Refusal}
 use Rattle.mom.specs.Map.{mapCheck}
-use Rattle.mom.specs.Lookup.{ContainingAnswer, RunAnswer}
 use Rattle.mom.specs.declared.MapCheck.{MapCheck}
 use Rattle.mom.specs.declared.lookup.Containing.{Containing}
 use Rattle.mom.specs.declared.lookup.Run.{Run}
-use Rattle.rows.specs.Rows.{rowsToRead, zuniqsOf, readZuniqs}
+use Rattle.rows.specs.Rows.{readZuniqs}
 use Rattle.rows.specs.declared.Rows.{Rows}
 use Rattle.rows.proofs.Zuniqs.{was-read, was-refused}
 use Rattle.mom_c.specs.Words.{containingWord, runWord, ContainingIs, RunIs}
@@ -50,7 +47,8 @@ module _ (bytes zs : List ℕ) (long : length zs ≡ 4096) where
         told = a .told;
       }
 
-  pub containing-refused : (D q : ℕ) (x : Refusal) (out : List ℕ) → (Rows.Refused x, out) ≡ readZuniqs zs bytes → D ≤ 29 → ContainingInRows D bytes q (containingWord (Containing.Refused x))
+  pub containing-refused : (D q : ℕ) (x : Refusal) (out : List ℕ) → (Rows.Refused x, out) ≡ readZuniqs zs bytes → D ≤ 29
+      → ContainingInRows D bytes q (containingWord (Containing.Refused x))
   unfolding mapRowsAt ContainingOver
   containing-refused D q x out e h = record { answer = Containing.Refused x; is = rw (le-ltb 29 D h, rows-refused x out e) refl; told = refl }
 

@@ -30,7 +30,8 @@ module _ (bytes zs : List ℕ) where
   pub read-zuniqs-fits : (n : ℕ) → rowsToRead 12 (length bytes) (length zs ∷ length zs ∷ []) ≡ Rows.Rows n → (n * 12 ≤ length bytes) × (n ≤ length zs)
   read-zuniqs-fits n e = let f = read-pair-fits 8 4 bytes zs zs n e in (f .0, f .1)
 
-  pub read-zuniqs-read : (n : ℕ) → rowsToRead 12 (length bytes) (length zs ∷ length zs ∷ []) ≡ Rows.Rows n → (Rows.Rows n, numbersIn 12 0 8 bytes n ++ drop n zs) ≡ readZuniqs zs bytes
+  pub read-zuniqs-read : (n : ℕ) → rowsToRead 12 (length bytes) (length zs ∷ length zs ∷ []) ≡ Rows.Rows n
+      → (Rows.Rows n, numbersIn 12 0 8 bytes n ++ drop n zs) ≡ readZuniqs zs bytes
   unfolding zuniqsOf readZuniqsAs readZuniqs
   read-zuniqs-read n e =
       let all = readable 12 (length bytes) (length zs ∷ length zs ∷ []) n e .rows in
@@ -65,6 +66,7 @@ module _ (bytes zs : List ℕ) where
   unfolding readZuniqsAs readZuniqs
   was-refused r out = go (rowsToRead 12 (length bytes) (length zs ∷ [])) refl
     where
-      go : (a : Rows) → rowsToRead 12 (length bytes) (length zs ∷ []) ≡ a → (Rows.Refused r, out) ≡ readZuniqsAs a zs bytes → rowsToRead 12 (length bytes) (length zs ∷ []) ≡ Rows.Refused r
+      go : (a : Rows) → rowsToRead 12 (length bytes) (length zs ∷ []) ≡ a → (Rows.Refused r, out) ≡ readZuniqsAs a zs bytes
+          → rowsToRead 12 (length bytes) (length zs ∷ []) ≡ Rows.Refused r
       go (Rows.Rows m) q e = absurd (refused r m (ap (λ (p : Rows × List ℕ). p .0) e))
       go (Rows.Refused s) q e = q ∙ sym (ap (λ (p : Rows × List ℕ). p .0) e)

@@ -23,7 +23,10 @@ enum-told : tie.Need-enum-told Inv-loop μ-loop
 enum-told c = search needs
 
 returns : tie.Need-returns Inv-loop μ-loop
-returns c = let a = c .before .before .before .before .before .before .args in rw (c .enum-told .given .1) (writing-refused 8 4 (a .zuniqs .now) (a .counts .now) (a .bytes .now) _ (sym (c .before .before .rows-to-write .ensures) ∙ c .enum-told .given .1))
+returns c =
+    let a = c .before .before .before .before .before .before .args in
+    let refused = sym (c .before .before .rows-to-write .ensures) ∙ c .enum-told .given .1 in
+    rw (c .enum-told .given .1) (writing-refused 8 4 (a .zuniqs .now) (a .counts .now) (a .bytes .now) _ refused)
 
 loop-holds : tie.Need-loop-holds Inv-loop μ-loop
 loop-holds c = writing-start (sym (c .before .before .before .rows-to-write .ensures) ∙ c .before .answer .given .1)
@@ -59,13 +62,17 @@ loop-less : tie.Need-loop-less Inv-loop μ-loop
 loop-less c = omega arith
 
 loop-again : tie.Need-loop-again Inv-loop μ-loop
-loop-again c = rw (c .before .before .put-u32 .ensures, c .before .before .before .before .before .before .before .put-u64 .ensures) (writing-turn (c .before .before .before .before .before .before .before .before .before .before .before .loop .inv) (c .before .before .before .before .before .before .before .before .before .before .loop-test .taken))
+loop-again c =
+    let turn = writing-turn (c .before .before .before .before .before .before .before .before .before .before .before .loop .inv) (c .before .before .before .before .before .before .before .before .before .before .loop-test .taken) in
+    rw (c .before .before .put-u32 .ensures, c .before .before .before .before .before .before .before .put-u64 .ensures) turn
 
 same-length : tie.Need-same-length Inv-loop μ-loop
 same-length c = writing-length (c .before .loop .inv)
 
 returns-2 : tie.Need-returns-2 Inv-loop μ-loop
-returns-2 c = writing-end (sym (c .before .before .before .before .before .rows-to-write .ensures) ∙ c .before .before .before .answer .given .1) (c .before .loop .inv) (c .loop-test .left)
+returns-2 c =
+    let rows = sym (c .before .before .before .before .before .rows-to-write .ensures) ∙ c .before .before .before .answer .given .1 in
+    writing-end rows (c .before .loop .inv) (c .loop-test .left)
 
 pub write-count-rows-spec : {M : Type 1} → statement M
 write-count-rows-spec =

@@ -46,13 +46,15 @@ refused-requires-2 c κs = search needs
 returns-2 : tie.Need-returns-2
 returns-2 c =
     let read = rw (c .before .before .before .rows .given .1) at (c .before .before .before .before .before .before .read-zuniqs .ensures) in
-    c .mom-check-is-mom-zuniqs .ensures ∙ ap mapCheckWord (check-read _ _ (length-replicate {A = ℕ} 4096 0) (c .before .before .before .before .before .before .before .before .before .before .args .depth) _ _ read (omega arith))
+    let depth = c .before .before .before .before .before .before .before .before .before .before .args .depth in
+    c .mom-check-is-mom-zuniqs .ensures ∙ ap mapCheckWord (check-read _ _ (length-replicate {A = ℕ} 4096 0) depth _ _ read (omega arith))
 
 returns-3 : tie.Need-returns-3
 unfolding mapCheckWord
 returns-3 c =
     let read = rw (c .before .before .refusal .given .1) at (c .before .before .before .before .before .read-zuniqs .ensures) in
-    c .refused2 .ensures ∙ ap mapCheckWord (check-refused _ _ (length-replicate {A = ℕ} 4096 0) (c .before .before .before .before .before .before .before .before .before .args .depth) _ _ read (omega arith))
+    let depth = c .before .before .before .before .before .before .before .before .before .args .depth in
+    c .refused2 .ensures ∙ ap mapCheckWord (check-refused _ _ (length-replicate {A = ℕ} 4096 0) depth _ _ read (omega arith))
 
 pub mom-check-is-mom-spec : {M : Type 1} → statement M
 mom-check-is-mom-spec =

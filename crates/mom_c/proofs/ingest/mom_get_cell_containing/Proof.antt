@@ -1,5 +1,5 @@
 -- `mom_get_cell_containing` meets its contract. Assumes nothing.
-use mathlib.Core.Path.{refl, sym}
+use mathlib.Core.Path.{sym}
 use native.Mathlib.Omega.{arith}
 use Prim.Native.Nat.{ℕ}
 use lib.ListN.{length-replicate}
@@ -15,7 +15,9 @@ refused-requires c κs = search needs
 
 returns : tie.Need-returns
 unfolding containingWord
-returns c = rw (c .refused .ensures) (containing-too-deep (c .before .before .before .args .depth) (c .before .before .before .args .bytes .now) (c .before .before .before .args .zuniq) (omega arith))
+returns c =
+    let a = c .before .before .before .args in
+    rw (c .refused .ensures) (containing-too-deep (a .depth) (a .bytes .now) (a .zuniq) (omega arith))
 
 slice-aggregate-read-zuniqs : tie.Need-slice-aggregate-read-zuniqs
 slice-aggregate-read-zuniqs c = search needs
