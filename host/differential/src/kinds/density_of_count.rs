@@ -9,8 +9,8 @@ pub struct DensityOfCount;
 
 #[derive(Debug, PartialEq, Eq, PartialOrd, Ord)]
 pub struct Input {
-    depth: u8,
-    count: u32,
+    pub depth: u8,
+    pub count: u32,
 }
 
 impl Kind for DensityOfCount {

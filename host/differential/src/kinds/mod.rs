@@ -31,7 +31,7 @@ pub use from_zuniq::FromZuniq;
 pub use get_cell_containing::GetCellContaining;
 pub use get_overlapped_cells::GetOverlappedCells;
 pub use n_hash::NHash;
-pub use rows::{ContainingInRows, Read, Write};
+pub use rows::{ContainingInRows, Read, Value as RowValue, Write};
 pub use to_zuniq::ToZuniq;
 
 pub type AddCounts = Add<u32>;

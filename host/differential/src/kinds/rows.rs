@@ -113,8 +113,12 @@ impl<V: Value> Kind for Read<V> {
     }
 
     fn random(random: &mut Random) -> Option<Vec<u8>> {
-        let length = random.below(MOST_ROWS) as usize * V::ROW;
-        Some((0..length).map(|_| any_bits(random) as u8).collect())
+        let rows = 0..random.below(MOST_ROWS);
+        let row = |_| {
+            let [zuniq, value] = [(); 2].map(|()| any_bits(random).to_le_bytes());
+            [&zuniq[..], &value[..V::ROW - 8]].concat()
+        };
+        Some(rows.flat_map(row).collect())
     }
 
     fn ours(bytes: &Vec<u8>) -> Self::Answer {

@@ -1,0 +1,99 @@
+//! Wrong rows and densities: the random inputs must tell each from the original's often enough for a
+//! short run to find it.
+
+use differential::{
+    compare::Kind,
+    floats::Float,
+    kinds::{DensityOfCount, Read, RowValue, Write},
+    random::Random,
+};
+
+const DRAWN: usize = 20_000;
+
+/// How often a wrong answer differs from the original's.
+fn assert_found<K: Kind>(wrong: &str, answer: impl Fn(&K::Input) -> K::Answer) {
+    let mut random = Random::new(8);
+    let differs = |_: &usize| {
+        let input = K::random(&mut random).unwrap();
+        answer(&input) != K::original(&input)
+    };
+    let differing = (0..DRAWN).filter(differs).count();
+    assert!(differing * 100 > DRAWN, "{wrong}: {differing} of {DRAWN}");
+}
+
+/// The wrong function is asked the count and N(depth).
+fn assert_density_is_found(wrong: &str, density: fn(f64, f64) -> f64) {
+    assert_found::<DensityOfCount>(wrong, |input| {
+        let cells = 12u64 << (2 * input.depth);
+        Ok(Float(density(input.count as f64, cells as f64)))
+    });
+}
+
+const PI: f64 = std::f64::consts::PI;
+
+/// 4π/N(d) and (4/N(d))π are the same f64 at every depth, so that no input tells them apart.
+#[test]
+fn no_wrong_density_is_missed() {
+    assert_density_is_found("in one division", |n, cells| n * cells / (4.0 * PI));
+    assert_density_is_found("of the parent", |n, cells| n / (4.0 * PI / (cells / 4.0)));
+    assert_density_is_found("as an f32", |n, cells| n as f32 as f64 / (4.0 * PI / cells));
+    assert_density_is_found("pi one f64 above", |n, cells| {
+        n / (4.0 * PI.next_up() / cells)
+    });
+}
+
+type Entries<V> = Vec<(u64, V)>;
+
+fn assert_reading_is_found<V: RowValue>(wrong: &str, change: fn(Entries<V>) -> Entries<V>) {
+    assert_found::<Read<V>>(wrong, |bytes| {
+        let (entries, _) = Read::<V>::ours(bytes)?;
+        let entries = change(entries);
+        let number = entries.len();
+        Ok((entries, number))
+    });
+}
+
+#[test]
+fn no_wrong_reading_is_missed() {
+    assert_reading_is_found::<u32>("big-endian counts", |rows| {
+        rows.iter().map(|&(z, n)| (z, n.swap_bytes())).collect()
+    });
+    assert_reading_is_found::<u32>("without the last row", |mut rows| {
+        rows.pop();
+        rows
+    });
+    assert_reading_is_found::<u32>("zuniqs of 63 bits", |rows| {
+        rows.iter().map(|&(z, n)| (z & !(1 << 63), n)).collect()
+    });
+    assert_reading_is_found::<u64>("one NaN for all", |rows| {
+        let one = |p| {
+            if f64::from_bits(p).is_nan() {
+                f64::NAN.to_bits()
+            } else {
+                p
+            }
+        };
+        rows.iter().map(|&(z, p)| (z, one(p))).collect()
+    });
+    assert_reading_is_found::<u64>("values before zuniqs", |rows| {
+        rows.iter().map(|&(z, p)| (p, z)).collect()
+    });
+}
+
+#[test]
+fn no_wrong_writing_is_missed() {
+    assert_found::<Write<u32>>("in 16 bytes a row", |entries| {
+        let wide: Entries<u64> = entries.iter().map(|&(z, n)| (z, n as u64)).collect();
+        Write::<u64>::ours(&wide)
+    });
+    assert_found::<Write<u64>>("the quiet NaN", |entries| {
+        let quiet = |p| {
+            if f64::from_bits(p).is_nan() {
+                p | 1 << 51
+            } else {
+                p
+            }
+        };
+        Write::<u64>::ours(&entries.iter().map(|&(z, p)| (z, quiet(p))).collect())
+    });
+}
