@@ -1,6 +1,6 @@
 /* The C functions of libmom_c.a: rows and the check and lookup of maps that come as rows, which an
  * ingest process calls; then cells of multi-order maps, their zuniqs, the mergers, the check and
- * lookup of a map's zuniqs, and building from counts and from densities.
+ * lookup of a map's zuniqs, building from counts and from densities, and combining maps.
  *
  * A cell is a depth d, 0 to 29, and a hash h below N(d) = 12 * 4^d (HEALPix, nested). Its zuniq is
  * (2h + 1) * 4^(29 - d), a u64; no other u64 is a valid zuniq. The four cells that it consists of
@@ -24,8 +24,8 @@
  * What doesn't fit into the word goes through a pointer. A function says when it writes such a
  * number: by a refusal, and by MOM_NONE, it is left as it was. A slice is its pointer and then its
  * length. No pointer may be null, not even that of an empty slice, and what one pointer of a call
- * reaches may not overlap what another does. No function keeps a pointer or has a state, so any
- * number of threads may call. A double is the 64-bit one of IEEE 754.
+ * reaches may not overlap what another does, unless both are const. No function keeps a pointer or
+ * has a state, so any number of threads may call. A double is the 64-bit one of IEEE 754.
  *
  * Link with -lmom_c. The archive is made by `rt staticlib mom_c`.
  */
@@ -213,6 +213,25 @@ uint64_t mom_add_counts(uint8_t depth, uint8_t depth_threshold, double chi2_thre
 uint64_t mom_add_densities(uint8_t depth, uint8_t depth_threshold, double chi2_threshold,
                            size_t held, uint64_t *zuniqs, size_t zl, double *densities, size_t dl,
                            const uint64_t *hashes, size_t hl, const double *batch, size_t bl);
+
+/* Pools two count maps, each with a depth of its own, into zuniqs and counts, which may hold
+ * anything. A cell that one map has keeps its count, a cell that both have gets the sum. An
+ * entry of one map that has entries of the other in it is split: each of its children gets a
+ * quarter of its count, and the first ones one more each, as many as are left over; so on, level
+ * by level. The cells are then merged by the count merger under depth_threshold and
+ * chi2_threshold, as mom_add_counts does. The value is the number of entries and *total = the
+ * sum of their counts; every place after the entries is 0. By a refusal both buffers and *total
+ * are left as they were.
+ * Refuses by 1: a map's depth is over 29; then by 2: depth_threshold is over 29; then by 3:
+ * chi2_threshold is a NaN; then by 4: lzl isn't lcl, rzl isn't rcl, or zl isn't cl; then by 5: a
+ * map is no valid map of its depth, the place is its first faulty entry, and the left map goes
+ * before the right one; then by 10: all counts together are over 2^32 - 1; then by 11: zl is
+ * less than the number of cells before they are merged. */
+uint64_t mom_pool(uint8_t left_depth, const uint64_t *left_zuniqs, size_t lzl,
+                  const uint32_t *left_counts, size_t lcl, uint8_t right_depth,
+                  const uint64_t *right_zuniqs, size_t rzl, const uint32_t *right_counts,
+                  size_t rcl, uint8_t depth_threshold, double chi2_threshold, uint64_t *zuniqs,
+                  size_t zl, uint32_t *counts, size_t cl, uint32_t *total);
 
 #ifdef __cplusplus
 }

@@ -124,6 +124,70 @@ static void maps_of_rows(void) {
                    MOM_ACCEPTED, 0) && number == MOM_MAX_ROWS, "overlapped in 4096 rows");
     expect(answers(mom_get_overlapped_cells(count_rows, 24, 3, &number), MOM_ACCEPTED, 1) &&
            number == 1, "the entry 3 of two rows");
+
+/* Pooling (0,0) of 10 and (1,1) of 3 into two buffers of so many places, which hold 5s before. */
+struct pooled {
+    uint64_t word, zuniqs[5];
+    uint32_t counts[5], total;
+};
+
+static struct pooled pool(uint8_t left_depth, size_t right_len, uint8_t m, double t, size_t zl,
+                          size_t cl) {
+    const uint64_t left[1] = {UINT64_C(1) << 58}, right[1] = {UINT64_C(3) << 56};
+    const uint32_t ten[1] = {10}, three[1] = {3};
+    struct pooled p = {0, {5, 5, 5, 5, 5}, {5, 5, 5, 5, 5}, 5};
+    p.word = mom_pool(left_depth, left, 1, ten, 1, 1, right, right_len, three, 1, m, t, p.zuniqs,
+                      zl, p.counts, cl, &p.total);
+    return p;
+}
+
+static int untouched(struct pooled p, uint8_t number, uint64_t place) {
+    int all = answers(p.word, number, place) && p.total == 5;
+    for (int i = 0; i < 5; i++) {
+        all = all && p.zuniqs[i] == 5 && p.counts[i] == 5;
+    }
+    return all;
+}
+
+static void pooling(void) {
+    const uint64_t first = UINT64_C(1) << 56, base = UINT64_C(1) << 58, faulty[2] = {first, 2};
+    const uint32_t largest[2] = {UINT32_MAX, 1};
+    struct pooled p;
+
+    expect(untouched(pool(30, 1, 30, NAN, 5, 4), MOM_DEPTH_OUT_OF_RANGE, 0), "a pool at depth 30");
+    expect(untouched(pool(0, 1, 30, NAN, 5, 4), MOM_DEPTH_THRESHOLD_OUT_OF_RANGE, 0),
+           "a pool, M = 30");
+    expect(untouched(pool(0, 1, 0, NAN, 5, 4), MOM_CHI2_THRESHOLD_IS_NAN, 0), "a pool, T a NaN");
+    expect(untouched(pool(0, 0, 0, 2, 5, 5), MOM_LENGTHS_DIFFER, 0), "a pool of two lengths");
+    expect(untouched(pool(0, 1, 0, 2, 5, 4), MOM_LENGTHS_DIFFER, 0), "a pool into two lengths");
+    expect(untouched(pool(0, 1, 0, 3.5, 3, 3), MOM_NO_SPACE, 0), "a pool into three places");
+
+    p = pool(0, 1, 0, 2, 5, 5);
+    expect(answers(p.word, MOM_ACCEPTED, 4) && p.total == 13 && p.zuniqs[0] == first &&
+           p.zuniqs[1] == 3 * first && p.zuniqs[2] == 5 * first && p.zuniqs[3] == 7 * first &&
+           p.counts[0] == 3 && p.counts[1] == 6 && p.counts[2] == 2 && p.counts[3] == 2 &&
+           p.zuniqs[4] == 0 && p.counts[4] == 0, "a pool of 3, 6, 2, 2");
+    p = pool(0, 1, 0, 3.5, 4, 4);
+    expect(answers(p.word, MOM_ACCEPTED, 1) && p.total == 13 && p.zuniqs[0] == base &&
+           p.counts[0] == 13 && p.zuniqs[1] == 0 && p.counts[3] == 0 && p.zuniqs[4] == 5 &&
+           p.counts[4] == 5, "a pool of 13");
+
+    /* Both maps the same memory. */
+    expect(answers(mom_pool(1, faulty, 2, largest, 2, 1, faulty, 2, largest, 2, 0, 2, p.zuniqs, 5,
+                            p.counts, 5, &p.total),
+                   MOM_INVALID_MAP, 1) && p.total == 13, "a pool of what is no map");
+    expect(answers(mom_pool(1, faulty, 1, largest, 1, 1, faulty, 1, largest + 1, 1, 0, 2, p.zuniqs,
+                            5, p.counts, 5, &p.total),
+                   MOM_COUNT_OVERFLOW, 0) && p.total == 13 && p.zuniqs[0] == base,
+           "a pool of 2^32");
+    expect(answers(mom_pool(1, faulty, 1, largest + 1, 1, 1, faulty, 1, largest + 1, 1, 0, 2,
+                            p.zuniqs, 5, p.counts, 5, &p.total),
+                   MOM_ACCEPTED, 1) && p.total == 2 && p.zuniqs[0] == first && p.counts[0] == 2 &&
+           p.zuniqs[4] == 0 && p.counts[4] == 0, "a pool of a map with itself");
+    expect(answers(mom_pool(0, faulty, 0, largest, 0, 29, faulty, 0, largest, 0, 0, 2, p.zuniqs, 5,
+                            p.counts, 5, &p.total),
+                   MOM_ACCEPTED, 0) && p.total == 0 && p.zuniqs[0] == 0 && p.counts[0] == 0,
+           "a pool of no entries");
 }
 
 int main(void) {
@@ -270,6 +334,7 @@ int main(void) {
 
     rows();
     maps_of_rows();
+    pooling();
 
     printf("%d passed, %d failed\n", passed, failed);
     return failed > 0;

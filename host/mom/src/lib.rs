@@ -19,10 +19,13 @@
 //! assert_eq!(merge(3.0), mom::CountMerge::Kept(3.0));
 //! ```
 
+mod combining;
 mod raw;
 pub mod rows;
 
 use std::{error::Error, fmt};
+
+pub use combining::{pool, Map};
 
 /// A call that was refused: which of the scope's refusals, and where, counted from 0.
 #[derive(Clone, Copy, Debug, PartialEq, Eq, Hash)]
@@ -74,7 +77,8 @@ pub enum MapCheck {
     Faulty { place: usize, fault: Fault },
 }
 
-/// What an accepted add call of counts leaves: the number of entries, and the sum of their counts.
+/// What an accepted add call of counts, or a pool, leaves: the number of entries, and the sum of
+/// their counts.
 #[derive(Clone, Copy, Debug, PartialEq, Eq, Hash)]
 pub struct Added {
     pub entries: usize,
