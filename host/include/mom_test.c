@@ -124,6 +124,7 @@ static void maps_of_rows(void) {
                    MOM_ACCEPTED, 0) && number == MOM_MAX_ROWS, "overlapped in 4096 rows");
     expect(answers(mom_get_overlapped_cells(count_rows, 24, 3, &number), MOM_ACCEPTED, 1) &&
            number == 1, "the entry 3 of two rows");
+}
 
 /* Pooling (0,0) of 10 and (1,1) of 3 into two buffers of so many places, which hold 5s before. */
 struct pooled {

@@ -1,7 +1,7 @@
 //! Compares the proved functions of libmom_c.a with the original Rust, in one process.
 //!
 //! A kind of comparison is a file in `kinds/` that implements [`compare::Kind`], or a value of
-//! [`lists`], and a line of [`kinds::KINDS`].
+//! [`lists`] or [`pairs`], and a line of [`kinds::KINDS`].
 
 pub mod cells;
 pub mod compare;
@@ -9,5 +9,6 @@ pub mod floats;
 pub mod kinds;
 pub mod lists;
 pub mod maps;
+pub mod pairs;
 pub mod quads;
 pub mod random;

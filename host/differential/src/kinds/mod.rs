@@ -12,6 +12,8 @@ mod from_zuniq;
 mod get_cell_containing;
 mod get_overlapped_cells;
 mod n_hash;
+mod pool;
+mod product;
 mod rows;
 mod to_zuniq;
 
@@ -19,6 +21,7 @@ use crate::{
     compare::{compare, Kind, Plan, Report},
     floats::Float,
     lists::Add,
+    pairs::Pair,
 };
 
 pub use are_overlapping::AreOverlapping;
@@ -36,6 +39,7 @@ pub use to_zuniq::ToZuniq;
 
 pub type AddCounts = Add<u32>;
 pub type AddDensities = Add<Float>;
+pub type Pool = Pair<u32>;
 
 pub struct Entry {
     pub name: &'static str,
@@ -61,6 +65,7 @@ pub static KINDS: &[Entry] = &[
     entry::<CheckIsMom>(),
     entry::<AddCounts>(),
     entry::<AddDensities>(),
+    entry::<Pool>(),
     entry::<GetCellContaining>(),
     entry::<GetOverlappedCells>(),
     entry::<DensityOfCount>(),

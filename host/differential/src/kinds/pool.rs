@@ -1,0 +1,79 @@
+//! Two count maps pooled.
+
+use mom::{Added, Map};
+use oracle::run;
+
+use crate::{
+    cells::Cell,
+    lists::Answer,
+    pairs::{Call, Combine, Input},
+    random::{any_of, Random},
+};
+
+impl Combine for u32 {
+    const CALL: &'static str = "pool";
+
+    fn split(self) -> [u32; 4] {
+        [0, 1, 2, 3].map(|child| self / 4 + u32::from(child < self % 4))
+    }
+
+    fn rule(_k: f64, left: Option<u32>, right: Option<u32>) -> Option<u32> {
+        Some(left.unwrap_or(0) + right.unwrap_or(0))
+    }
+
+    fn merged(values: [u32; 4]) -> u32 {
+        values.iter().sum()
+    }
+
+    fn is_invalid_factor(_k: f64) -> bool {
+        false
+    }
+
+    fn exceed(left: &[u32], right: &[u32]) -> bool {
+        let counts = left.iter().chain(right);
+        counts.map(|&count| count as u64).sum::<u64>() > u32::MAX as u64
+    }
+
+    /// As many for a base cell as all cells of the map can have, so that the deepest ones get few or
+    /// none.
+    fn even(random: &mut Random, cells: &[Cell]) -> Vec<u32> {
+        let bits = any_of(random, &[4, 12, 24, 28]);
+        let of_base = random.below(1 << bits);
+        let noise = any_of(random, &[1, 2, 5]);
+        cells
+            .iter()
+            .map(|cell| (of_base >> (2 * cell.depth)) as u32)
+            .map(|count| count + random.below(noise) as u32)
+            .collect()
+    }
+
+    fn factor(_random: &mut Random, _values: &[u32]) -> f64 {
+        1.0
+    }
+
+    fn few() -> &'static [u32] {
+        &[0, 1, 6]
+    }
+
+    fn original(input: &Input<u32>) -> Vec<(u64, u32)> {
+        let [left, right] = [&input.left, &input.right].map(|map| {
+            let entries = map.zuniqs.iter().copied().zip(map.values.iter().copied());
+            run::mom(map.depth, entries.collect())
+        });
+        let (_, entries) = run::pool(left, right, input.depth_threshold, input.chi2_threshold.0);
+        entries
+    }
+}
+
+impl Call for u32 {
+    fn combine(input: &Input<u32>, zuniqs: &mut [u64], counts: &mut [u32]) -> Answer<u32> {
+        let [left, right] = [&input.left, &input.right].map(|map| Map {
+            depth: map.depth,
+            zuniqs: &map.zuniqs,
+            values: &map.values,
+        });
+        let (m, t) = (input.depth_threshold, input.chi2_threshold.0);
+        let Added { entries, total } = mom::pool(left, right, m, t, zuniqs, counts)?;
+        Ok((entries, total))
+    }
+}

@@ -1,0 +1,339 @@
+//! The pairs of maps: small ones, and random ones of which some are given faults.
+
+use super::{Combine, Given, Input};
+use crate::{
+    cells::{n_hash, Cell, DEPTH_MAX},
+    floats::{near, Float},
+    maps::Map,
+    random::{any_of, Random},
+};
+
+fn given<V: Combine>(depth: u8, cells: &[Cell], values: Vec<V>) -> Given<V> {
+    let zuniqs = cells.iter().map(|cell| cell.zuniq()).collect();
+    Given {
+        depth,
+        zuniqs,
+        values,
+    }
+}
+
+impl<V: Combine> Input<V> {
+    /// All pairs of maps in the first base cell down to depth 1; and an entry of any depth in one of
+    /// any other, at both ends and in between.
+    pub(super) fn small() -> impl Iterator<Item = Self> {
+        let maps = in_a_base_cell();
+        let pairs = (0..maps.len() * maps.len()).flat_map(move |pair| {
+            let (left, right) = (&maps[pair / maps.len()], &maps[pair % maps.len()]);
+            let inputs = [(0, 0.0), (0, 3.5), (1, f64::INFINITY)];
+            inputs.map(|(m, t)| Self::new(left.clone(), right.clone(), m, t).with_places())
+        });
+        pairs.chain(nested())
+    }
+
+    /// With no place.
+    fn new(left: Given<V>, right: Given<V>, m: u8, t: f64) -> Self {
+        Input {
+            places: [0; 2],
+            left,
+            right,
+            depth_threshold: m,
+            chi2_threshold: Float(t),
+            factor: Float(1.0),
+            content: u64::MAX,
+        }
+    }
+
+    /// With places for all, and one more.
+    fn with_places(mut self) -> Self {
+        self.places = [self.kept().len() + 1; 2];
+        self
+    }
+
+    pub fn random(random: &mut Random) -> Self {
+        let cells = cells(random);
+        let even = random.coin();
+        let [left, right] = cells.map(|cells| map(random, &cells, even));
+        let mut input = Self::new(left, right, 0, 0.0);
+        let values = [&input.left.values[..], &input.right.values].concat();
+        input.factor = Float(V::factor(random, &values));
+        if V::exceed(&input.left.values, &input.right.values) {
+            return input;
+        }
+        let kept = input.kept();
+        input.chi2_threshold = Float(threshold::<V>(random, &kept));
+        input.depth_threshold = match random.below(4) {
+            0 => random.below(DEPTH_MAX as u64 + 1) as u8,
+            1 => kept
+                .first()
+                .map_or(0, |(cell, _)| cell.depth.saturating_sub(1)),
+            _ => 0,
+        };
+        let places = match random.below(4) {
+            0 => kept.len(),
+            1 => (kept.len() + 1).saturating_sub(random.below(3) as usize),
+            _ => kept.len() + random.below(20) as usize,
+        };
+        input.places = [places; 2];
+        input.content = any_of(random, &[0, 1, 1 << 58, u64::MAX, 0x7ff8 << 48 | 5]);
+        if random.below(4) == 0 {
+            for _ in 0..=random.below(5) / 4 {
+                input.change(random);
+            }
+        }
+        input
+    }
+
+    /// Makes a change by which the call is refused, or may be.
+    fn change(&mut self, random: &mut Random) {
+        let over = any_of(random, &[30, 31, 255]);
+        match random.below(10) {
+            0 => self.depth_threshold = over,
+            1 => self.chi2_threshold = Float(any_of(random, &[f64::NAN, -f64::NAN])),
+            2 => {
+                let factors = [f64::NAN, f64::INFINITY, -1.0, -5e-324, f64::NEG_INFINITY];
+                self.factor = Float(any_of(random, &factors));
+            }
+            3 => self.places[random.below(2) as usize] += 1,
+            4 => self.places = self.places.map(|places| places.saturating_sub(1)),
+            5 if random.coin() => self.left.depth = over,
+            5 => self.right.depth = over,
+            _ if random.coin() => self.left.change(random),
+            _ => self.right.change(random),
+        }
+    }
+}
+
+impl<V: Combine> Given<V> {
+    fn change(&mut self, random: &mut Random) {
+        let len = self.zuniqs.len().min(self.values.len()) as u64;
+        if len == 0 {
+            self.values.push(V::ZERO);
+            return;
+        }
+        let place = random.below(len) as usize;
+        let before = self.zuniqs[place.saturating_sub(1)];
+        match random.below(8) {
+            0 => drop(self.zuniqs.pop()),
+            1 => drop(self.values.pop()),
+            2 => self.zuniqs[place] = any_of(random, &[0, 2, 1 << 60, u64::MAX]),
+            3 => self.zuniqs[place] = before,
+            // Larger ones overlap, deeper ones are too deep.
+            4 | 5 => {
+                let near = Cell::of_zuniq(self.zuniqs[place]).unwrap_or(Cell::random(random));
+                self.zuniqs[place] = near.relative(random).zuniq();
+            }
+            6 => self.depth = random.below(self.depth as u64 + 1) as u8,
+            _ => self.values[place] = any_of(random, V::faulty()),
+        }
+    }
+}
+
+/// The maps of the first base cell down to depth 1, with few values.
+fn in_a_base_cell<V: Combine>() -> Vec<Given<V>> {
+    let base = Cell { depth: 0, hash: 0 };
+    let few = V::few();
+    let ways = few.len() + 1;
+    let whole = few.iter().map(|&value| given(0, &[base], vec![value]));
+    let parts = (0..ways.pow(4)).map(|way| {
+        let digits = (0..4).map(|child| way / ways.pow(child) % ways);
+        let chosen = base.children().into_iter().zip(digits);
+        let chosen = chosen.filter_map(|(cell, digit)| Some((cell, *few.get(digit)?)));
+        let (cells, values): (Vec<Cell>, Vec<V>) = chosen.unzip();
+        given(1, &cells, values)
+    });
+    whole.chain(parts).collect()
+}
+
+/// An entry in another one, of every two depths: the larger one is split through all between.
+fn nested<V: Combine>() -> impl Iterator<Item = Input<V>> {
+    let depths = (0..=DEPTH_MAX).flat_map(|top| (top..=DEPTH_MAX).map(move |depth| (top, depth)));
+    let ways = depths.flat_map(|depths| [0, u64::MAX, 0x1b1b_1b1b_1b1b_1b1b].map(|p| (depths, p)));
+    ways.flat_map(|((top, bottom), path)| {
+        let base = Cell {
+            depth: 0,
+            hash: path % 12,
+        };
+        let (over, under) = (base.descendant(top, path), base.descendant(bottom, path));
+        let under = over.descendant(bottom, under.hash);
+        let values = V::few().iter();
+        values.flat_map(move |&value| {
+            let map = |cell: Cell| given(cell.depth, &[cell], vec![value]);
+            let inputs = [f64::NEG_INFINITY, f64::INFINITY];
+            inputs.map(|t| Input::new(map(over), map(under), 0, t).with_places())
+        })
+    })
+}
+
+/// A map of these cells, of their depth or of one below it.
+fn map<V: Combine>(random: &mut Random, cells: &[Cell], even: bool) -> Given<V> {
+    let deepest = cells.iter().map(|cell| cell.depth).max().unwrap_or(0);
+    let depth = match random.coin() {
+        true => deepest,
+        false => deepest + random.below((DEPTH_MAX - deepest) as u64 + 1) as u8,
+    };
+    let values = match even {
+        true => V::even(random, cells),
+        false => <V as crate::lists::Value>::random(random, deepest.max(1), cells.len()),
+    };
+    given(depth, cells, values)
+}
+
+/// The cells of two maps: of one kind each, or made from each other.
+fn cells(random: &mut Random) -> [Vec<Cell>; 2] {
+    let mut one = match random.below(3) {
+        0 => chain(random),
+        1 => merged(random),
+        _ => spread(random),
+    };
+    let mut other = match random.below(8) {
+        0 => vec![],
+        1 => one.clone(),
+        2 => spread(random),
+        3 => one.iter().map(|cell| cell.ancestor(0)).collect(),
+        4 | 5 => {
+            let near = one.iter().map(|cell| cell.relative(random));
+            near.collect()
+        }
+        _ => dealt(random, &mut one),
+    };
+    apart(&mut other);
+    match random.coin() {
+        true => [one, other],
+        false => [other, one],
+    }
+}
+
+/// Some cells go from the map to another, or into both.
+fn dealt(random: &mut Random, one: &mut Vec<Cell>) -> Vec<Cell> {
+    let mut other = Vec::new();
+    one.retain(|&cell| match random.below(5) {
+        0 | 1 => {
+            other.push(cell);
+            false
+        }
+        2 => {
+            other.push(cell);
+            true
+        }
+        _ => true,
+    });
+    other
+}
+
+/// As a map has them: rising, without those that overlap the one before.
+fn apart(cells: &mut Vec<Cell>) {
+    cells.sort_by_key(|cell| cell.zuniq());
+    let mut last: Option<Cell> = None;
+    cells.retain(|&cell| {
+        let is_apart = last.is_none_or(|last| !last.overlaps(cell));
+        if is_apart {
+            last = Some(cell);
+        }
+        is_apart
+    });
+}
+
+fn spread(random: &mut Random) -> Vec<Cell> {
+    let depth = random.below(DEPTH_MAX as u64 + 1) as u8;
+    Map::random(depth, random).cells().to_vec()
+}
+
+/// A cell, and the siblings of all that it lies in, up to some depth: all of them, or some.
+fn chain(random: &mut Random) -> Vec<Cell> {
+    let depth = random.below(DEPTH_MAX as u64 + 1) as u8;
+    let path = match random.below(4) {
+        0 => 0,
+        1 => u64::MAX,
+        _ => random.bits(),
+    };
+    let hash = random.below(12);
+    let bottom = Cell { depth: 0, hash }.descendant(depth, path);
+    let top = random.below(depth as u64 + 1) as u8;
+    let all = random.coin();
+    let mut cells = vec![bottom];
+    for depth in top + 1..=depth {
+        let siblings = bottom.ancestor(depth - 1).children().into_iter();
+        let siblings = siblings.filter(|&sibling| sibling != bottom.ancestor(depth));
+        cells.extend(siblings.filter(|_| all || random.coin()));
+    }
+    apart(&mut cells);
+    cells
+}
+
+/// Cells of one depth that follow each other, merged at random.
+fn merged(random: &mut Random) -> Vec<Cell> {
+    let depth = random.below(DEPTH_MAX as u64 + 1) as u8;
+    let n = n_hash(depth);
+    let len = any_of(random, &[4, 16, 64, 256]);
+    let first = match random.below(3) {
+        0 => 0,
+        1 => n.saturating_sub(len),
+        _ => random.below(n) >> 4 << 4,
+    };
+    let gaps = random.below(3) * 10;
+    let mut cells: Vec<Cell> = Vec::new();
+    for hash in first..n.min(first + len) {
+        if random.below(100) < gaps {
+            continue;
+        }
+        cells.push(Cell { depth, hash });
+        while let Some(parent) = last_parent(&cells) {
+            if random.below(4) == 0 {
+                break;
+            }
+            cells.truncate(cells.len() - 4);
+            cells.push(parent);
+        }
+    }
+    cells
+}
+
+/// The parent of the last four cells, if they are its children.
+fn last_parent(cells: &[Cell]) -> Option<Cell> {
+    let four: [Cell; 4] = *cells.last_chunk()?;
+    let parent = four[0].ancestor(four[0].depth.checked_sub(1)?);
+    (four == parent.children()).then_some(parent)
+}
+
+/// T at chi of four siblings, before merging or after, usual, or far from all chi.
+fn threshold<V: Combine>(random: &mut Random, kept: &[(Cell, V)]) -> f64 {
+    let chis = chis(kept);
+    let t = match random.below(8) {
+        0 => f64::INFINITY,
+        1 => any_of(
+            random,
+            &[0.0, -0.0, f64::NEG_INFINITY, f64::MIN_POSITIVE, -1.0],
+        ),
+        2 => 16.266,
+        3..=5 if !chis.is_empty() => {
+            let chi = any_of(random, &chis);
+            match random.coin() {
+                true => near(random, chi),
+                false => chi,
+            }
+        }
+        _ => V::LEAST_CHI2 + random.below(20_000) as f64 / 1000.0,
+    };
+    match t.is_nan() {
+        true => f64::INFINITY,
+        false => t,
+    }
+}
+
+/// Of all siblings that would come together if all were merged.
+fn chis<V: Combine>(kept: &[(Cell, V)]) -> Vec<f64> {
+    let (mut cells, mut values, mut chis) = (Vec::new(), Vec::new(), Vec::new());
+    for &(cell, value) in kept {
+        cells.push(cell);
+        values.push(value);
+        while let Some(parent) = last_parent(&cells) {
+            let four = *values.last_chunk().expect("a value for each cell");
+            chis.push(V::chi2(four, parent.depth));
+            cells.truncate(cells.len() - 4);
+            values.truncate(values.len() - 4);
+            cells.push(parent);
+            values.push(V::merged(four));
+        }
+    }
+    chis
+}

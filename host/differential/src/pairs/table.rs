@@ -1,0 +1,95 @@
+//! The judge of refusals: the scope's table, for pool and product calls.
+
+use mom::Refusal;
+
+use super::{overlay, Combine, Given, Input};
+use crate::cells::{Cell, DEPTH_MAX};
+
+impl<V: Combine> Given<V> {
+    /// The entries of a valid map.
+    pub fn entries(&self) -> Vec<(Cell, V)> {
+        let cells = self.zuniqs.iter().map(|&zuniq| Cell::of_zuniq(zuniq));
+        let cells = cells.map(|cell| cell.expect("a valid map"));
+        cells.zip(self.values.iter().copied()).collect()
+    }
+
+    /// Row 5: the first entry that isn't valid and above all of the one before it.
+    fn faulty_entry(&self) -> Option<usize> {
+        (0..self.zuniqs.len()).find(|&place| !self.is_sound(place))
+    }
+
+    fn is_sound(&self, place: usize) -> bool {
+        let Some(cell) = Cell::of_zuniq(self.zuniqs[place]) else {
+            return false;
+        };
+        let before = self.zuniqs[..place].last().copied();
+        cell.depth <= self.depth
+            && before.is_none_or(|before| {
+                let overlaps = Cell::of_zuniq(before).is_some_and(|before| before.overlaps(cell));
+                before < self.zuniqs[place] && !overlaps
+            })
+    }
+}
+
+impl<V: Combine> Input<V> {
+    /// The overlay cells of two valid maps that the rule keeps.
+    pub fn kept(&self) -> Vec<(Cell, V)> {
+        let (left, right) = (self.left.entries(), self.right.entries());
+        let cells = overlay(&left, &right, |_, value| V::split(value)).into_iter();
+        let k = self.factor.0;
+        cells
+            .filter_map(|seen| V::rule(k, seen.left, seen.right).map(|value| (seen.cell, value)))
+            .collect()
+    }
+
+    /// What the table says of the call, in its order.
+    pub fn refusal(&self) -> Option<Refusal> {
+        let refused = self.refused_setting().map(|number| (number, 0));
+        let (number, place) = refused
+            .or_else(|| self.refused_entry())
+            .or_else(|| self.refused_kept().map(|number| (number, 0)))?;
+        let place = place as u64;
+        Some(Refusal { number, place })
+    }
+
+    /// Rows 1 to 4.
+    fn refused_setting(&self) -> Option<u8> {
+        let maps = [&self.left, &self.right];
+        let differ = maps.map(|map| map.zuniqs.len() != map.values.len());
+        let rows = [
+            (1, maps.iter().any(|map| map.depth > DEPTH_MAX)),
+            (2, self.depth_threshold > DEPTH_MAX),
+            (3, self.chi2_threshold.0.is_nan()),
+            (3, V::is_invalid_factor(self.factor.0)),
+            (4, differ[0] || differ[1]),
+            (4, self.places[0] != self.places[1]),
+        ];
+        let (number, _) = rows.into_iter().find(|&(_, refused)| refused)?;
+        Some(number)
+    }
+
+    /// Rows 5 and 6, in each the left map before the right one.
+    fn refused_entry(&self) -> Option<(u8, usize)> {
+        let maps = [&self.left, &self.right];
+        let faulty = maps.iter().find_map(|map| map.faulty_entry());
+        let invalid = |map: &Given<V>| map.values.iter().position(|value| value.is_invalid());
+        let faulty = faulty.map(|place| (5, place));
+        faulty.or_else(|| {
+            maps.iter()
+                .find_map(|map| invalid(map))
+                .map(|place| (6, place))
+        })
+    }
+
+    /// Rows 10 and 11.
+    fn refused_kept(&self) -> Option<u8> {
+        if V::exceed(&self.left.values, &self.right.values) {
+            return Some(10);
+        }
+        let kept = self.kept();
+        if kept.iter().any(|(_, value)| value.is_invalid()) {
+            return Some(10);
+        }
+        (self.places[0] < kept.len()).then_some(11)
+    }
+}

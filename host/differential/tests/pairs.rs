@@ -1,0 +1,223 @@
+//! The pairs of maps drawn: none of what they are to show is rare, and pooling has no order.
+
+use differential::{
+    cells::{Cell, DEPTH_MAX},
+    compare::Kind,
+    floats::Float,
+    kinds::Pool,
+    lists::Step,
+    pairs::{overlay, Combine, Input, Seen},
+    random::Random,
+};
+
+const DRAWN: usize = 20_000;
+
+/// A pair with what is to come out.
+struct Drawn<V: Combine> {
+    input: Input<V>,
+    judged: Step<V>,
+    /// Where the maps are valid.
+    seen: Vec<Seen<V>>,
+}
+
+fn drawn<V: Combine>(seed: u64) -> Vec<Drawn<V>> {
+    let mut random = Random::new(seed);
+    let draw = |_| {
+        let input = Input::<V>::random(&mut random);
+        let judged = input.judged();
+        let seen = match judged.0 {
+            Ok(_) => {
+                let (left, right) = (input.left.entries(), input.right.entries());
+                overlay(&left, &right, |_, value| value.split())
+            }
+            Err(_) => vec![],
+        };
+        Drawn {
+            input,
+            judged,
+            seen,
+        }
+    };
+    (0..DRAWN).map(draw).collect()
+}
+
+type Class<V> = (&'static str, fn(&Drawn<V>) -> bool);
+
+fn assert_none_is_rare<V: Combine>(drawn: &[Drawn<V>], classes: &[Class<V>]) {
+    for (name, is_in) in classes {
+        let found = drawn.iter().filter(|pair| is_in(pair)).count();
+        assert!(found * 1000 > DRAWN, "{name}: {found} of {DRAWN}");
+    }
+}
+
+impl<V: Combine> Drawn<V> {
+    fn is_refused(&self, number: u8) -> bool {
+        self.judged.0.is_err_and(|refusal| refusal.number == number)
+    }
+
+    fn is_refused_past_0(&self, number: u8) -> bool {
+        let refusal = self.judged.0.err();
+        refusal.is_some_and(|refusal| refusal.number == number && refusal.place > 0)
+    }
+
+    fn entries(&self) -> Vec<(Cell, V)> {
+        let held = self.judged.0.map_or(0, |(entries, _)| entries);
+        let cells = self.judged.1.iter().take(held);
+        let cells = cells.filter_map(|&zuniq| Cell::of_zuniq(zuniq));
+        cells.zip(self.judged.2.iter().copied()).collect()
+    }
+
+    /// How many levels an entry of the left map, or of the right one, is split through.
+    fn splits(&self) -> [u8; 2] {
+        [&self.input.left, &self.input.right].map(|map| {
+            let levels = self.seen.iter().filter_map(|seen| {
+                let mut entries = map.zuniqs.iter().filter_map(|&zuniq| Cell::of_zuniq(zuniq));
+                let over = entries.find(|entry| entry.overlaps(seen.cell))?;
+                Some(seen.cell.depth.saturating_sub(over.depth))
+            });
+            levels.max().unwrap_or(0)
+        })
+    }
+
+    /// How many levels above the overlay's deepest cell in it an entry is.
+    fn merges(&self) -> u8 {
+        let levels = self.entries().into_iter().map(|(entry, _)| {
+            let cells = self.seen.iter().map(|seen| seen.cell);
+            let inside = cells.filter(|cell| cell.overlaps(entry));
+            inside.map(|cell| cell.depth).max().unwrap_or(0) - entry.depth
+        });
+        levels.max().unwrap_or(0)
+    }
+
+    fn both(&self) -> usize {
+        let both = |seen: &&Seen<V>| seen.left.is_some() && seen.right.is_some();
+        self.seen.iter().filter(both).count()
+    }
+
+    fn is_empty(&self) -> [bool; 2] {
+        [&self.input.left, &self.input.right].map(|map| map.zuniqs.is_empty())
+    }
+
+    fn is_accepted(&self) -> bool {
+        self.judged.0.is_ok()
+    }
+
+    /// What counts and densities have in common.
+    fn classes() -> Vec<Class<V>> {
+        vec![
+            ("accepted", |pair| pair.is_accepted()),
+            ("merged", |pair| pair.merges() > 0),
+            ("merged through three levels", |pair| pair.merges() > 2),
+            ("merged through ten levels", |pair| pair.merges() > 9),
+            ("the left split", |pair| pair.splits()[0] > 0),
+            ("the right split", |pair| pair.splits()[1] > 0),
+            ("both split", |pair| pair.splits().iter().all(|&n| n > 0)),
+            ("the left split through 20", |pair| pair.splits()[0] > 19),
+            ("the right split through 20", |pair| pair.splits()[1] > 19),
+            ("in both maps", |pair| pair.both() > 0),
+            ("in no two maps", |pair| {
+                pair.both() == 0 && !pair.seen.is_empty()
+            }),
+            ("the left empty", |pair| {
+                pair.is_accepted() && pair.is_empty() == [true, false]
+            }),
+            ("the right empty", |pair| {
+                pair.is_accepted() && pair.is_empty() == [false, true]
+            }),
+            ("both empty", |pair| {
+                pair.is_accepted() && pair.is_empty() == [true, true]
+            }),
+            ("equal cells", |pair| {
+                let (left, right) = (&pair.input.left, &pair.input.right);
+                pair.is_accepted() && left.zuniqs == right.zuniqs && left.zuniqs.len() > 2
+            }),
+            ("over 50 entries", |pair| pair.entries().len() > 50),
+            ("exactly full", |pair| {
+                let kept = pair.seen.len();
+                pair.is_accepted() && pair.input.places[0] == kept && kept > 0
+            }),
+            ("depth 0", |pair| {
+                pair.is_accepted() && pair.input.left.depth == 0 && pair.input.right.depth == 0
+            }),
+            ("depth 29", |pair| {
+                pair.is_accepted() && pair.input.left.depth == DEPTH_MAX
+            }),
+            ("the last cell of the sky", |pair| {
+                let last = pair.seen.last().map(|seen| seen.cell);
+                last.is_some_and(|cell| cell.descendant(DEPTH_MAX, u64::MAX).hash + 1 == 12 << 58)
+            }),
+            ("1", |pair| pair.is_refused(1)),
+            ("2", |pair| pair.is_refused(2)),
+            ("3", |pair| pair.is_refused(3)),
+            ("4", |pair| pair.is_refused(4)),
+            ("5", |pair| pair.is_refused(5)),
+            ("5 past place 0", |pair| pair.is_refused_past_0(5)),
+            ("10", |pair| pair.is_refused(10)),
+            ("11", |pair| pair.is_refused(11)),
+        ]
+    }
+}
+
+#[test]
+fn no_kind_of_pool_is_rare() {
+    let mut classes = Drawn::<u32>::classes();
+    classes.extend([
+        (
+            "a count of a split 0",
+            (|pair| {
+                let zero = |seen: &Seen<u32>| seen.left == Some(0) && seen.right.is_some();
+                pair.seen.iter().any(zero)
+            }) as fn(&Drawn<u32>) -> bool,
+        ),
+        ("a merged 0", |pair| {
+            pair.merges() > 0 && pair.entries().iter().any(|&(_, count)| count == 0)
+        }),
+        ("over 2^31", |pair| {
+            pair.judged.0.is_ok_and(|(_, total)| total > 1 << 31)
+        }),
+    ]);
+    assert_none_is_rare(&drawn(21), &classes);
+}
+
+#[test]
+fn no_kind_of_product_is_rare() {
+    let mut classes = Drawn::<Float>::classes();
+    classes.extend([
+        (
+            "6",
+            (|pair| pair.is_refused(6)) as fn(&Drawn<Float>) -> bool,
+        ),
+        ("6 past place 0", |pair| pair.is_refused_past_0(6)),
+        ("a product of 0", |pair| {
+            pair.entries().iter().any(|&(_, m)| m == Float(0.0))
+        }),
+        ("a product of −0", |pair| {
+            pair.entries().iter().any(|&(_, m)| m == Float(-0.0))
+        }),
+        ("a subnormal product", |pair| {
+            pair.entries().iter().any(|(_, m)| m.0.is_subnormal())
+        }),
+        ("a huge product", |pair| {
+            pair.entries().iter().any(|(_, m)| m.0 > 1e300)
+        }),
+        ("k 0", |pair| {
+            pair.is_accepted() && pair.input.factor.0 == 0.0
+        }),
+    ]);
+    assert_none_is_rare(&drawn(22), &classes);
+}
+
+/// "Swapped, with all else handed in alike, they give the same answer and output."
+#[test]
+fn no_order_changes_the_pool() {
+    let mut random = Random::new(23);
+    for _ in 0..DRAWN {
+        let input = Input::<u32>::random(&mut random);
+        let [given, swapped] = Pool::ours(&input);
+        // Two invalid maps are told apart by which comes first.
+        if given.0.is_err_and(|refusal| refusal.number == 5) {
+            continue;
+        }
+        assert_eq!(given, swapped, "{input:?}");
+    }
+}

@@ -1,0 +1,338 @@
+//! Wrong pool and product calls: the pairs of maps drawn must tell each from the original's `merge` and
+//! the scope's table often enough for a short run to find it. What is right stands here a third time,
+//! so that each wrong one differs from it in one thing.
+
+use differential::{
+    cells::Cell,
+    floats::Float,
+    lists::{Answer, Step},
+    pairs::{overlay, Combine, Input},
+    random::Random,
+};
+use mom::Refusal;
+
+const DRAWN: usize = 10_000;
+
+struct Program<V> {
+    /// By the depth of what is split.
+    split: fn(u8, V) -> [V; 4],
+    rule: fn(f64, Option<V>, Option<V>) -> Option<V>,
+    /// How many merges may follow a cell, by the cells behind.
+    most_merges: fn(usize) -> usize,
+    are_siblings: fn([Cell; 4]) -> bool,
+    /// By the parent's depth less M, chi and T.
+    merges: fn(i16, f64, f64) -> bool,
+    merged: fn([V; 4]) -> V,
+    /// How many places behind the last entry are cleared: of zuniqs, and of values.
+    cleared: fn(usize) -> [usize; 2],
+    refuse: fn(Refusal, &mut [u64], &mut [V]) -> Refusal,
+    /// Whether what the table refuses by 11 is, by the places and the entries of the map.
+    is_full: fn(usize, usize) -> bool,
+}
+
+impl<V: Combine> Program<V> {
+    /// The scope's.
+    fn right() -> Self {
+        Program {
+            split: |_, value| value.split(),
+            rule: V::rule,
+            most_merges: |_| 29,
+            are_siblings: |cells| {
+                let [first, ..] = cells;
+                first.depth > 0 && cells == first.ancestor(first.depth - 1).children()
+            },
+            merges: |above, chi, t| above >= 0 && chi < t,
+            merged: V::merged,
+            cleared: |places| [places; 2],
+            refuse: |refusal, _, _| refusal,
+            is_full: |_, _| true,
+        }
+    }
+
+    fn combined(&self, input: &Input<V>) -> Vec<(Cell, V)> {
+        let (left, right) = (input.left.entries(), input.right.entries());
+        let seen = overlay(&left, &right, self.split).into_iter();
+        let k = input.factor.0;
+        let kept =
+            seen.filter_map(|seen| Some((seen.cell, (self.rule)(k, seen.left, seen.right)?)));
+        let kept: Vec<(Cell, V)> = kept.collect();
+        let mut map = Vec::new();
+        for (place, &entry) in kept.iter().enumerate() {
+            map.push(entry);
+            for _ in 0..(self.most_merges)(kept.len() - 1 - place) {
+                let Some(parent) = self.parent(&map, input) else {
+                    break;
+                };
+                map.truncate(map.len() - 4);
+                map.push(parent);
+            }
+        }
+        map
+    }
+
+    /// What the last four entries become, if they are merged.
+    fn parent(&self, map: &[(Cell, V)], input: &Input<V>) -> Option<(Cell, V)> {
+        let &[a, b, c, d] = map.last_chunk()?;
+        let (cells, values) = ([a, b, c, d].map(|x| x.0), [a, b, c, d].map(|x| x.1));
+        if !(self.are_siblings)(cells) {
+            return None;
+        }
+        let depth = a.0.depth - 1;
+        let above = depth as i16 - input.depth_threshold as i16;
+        let chi = V::chi2(values, depth);
+        let merges = (self.merges)(above, chi, input.chi2_threshold.0);
+        merges.then(|| (a.0.ancestor(depth), (self.merged)(values)))
+    }
+
+    fn step(&self, input: &Input<V>, refusal: Option<Refusal>) -> Step<V> {
+        input.step(|zuniqs, values| self.answer(input, refusal, zuniqs, values))
+    }
+
+    fn answer(
+        &self,
+        input: &Input<V>,
+        refusal: Option<Refusal>,
+        zuniqs: &mut [u64],
+        values: &mut [V],
+    ) -> Answer<V> {
+        if let Some(refusal) = refusal.filter(|refusal| refusal.number != 11) {
+            return Err((self.refuse)(refusal, zuniqs, values));
+        }
+        let map = self.combined(input);
+        let (places, entries) = (zuniqs.len(), map.len());
+        if let Some(refusal) = refusal.filter(|_| (self.is_full)(places, entries)) {
+            return Err((self.refuse)(refusal, zuniqs, values));
+        }
+        // A wrong rule may keep more than there are places for.
+        let written = entries.min(places);
+        for (place, &(cell, value)) in map[..written].iter().enumerate() {
+            zuniqs[place] = cell.zuniq();
+            values[place] = value;
+        }
+        let [of_zuniqs, of_values] = (self.cleared)(places - written);
+        zuniqs[written..][..of_zuniqs].fill(0);
+        values[written..][..of_values].fill(V::ZERO);
+        let map: Vec<_> = map.iter().map(|&(cell, v)| (cell.hash, v)).collect();
+        Ok((entries, V::total(&map)))
+    }
+}
+
+/// Pairs, with what the table says of each and what is to come out.
+struct Drawn<V: Combine>(Vec<(Input<V>, Option<Refusal>, Step<V>)>);
+
+impl<V: Combine> Drawn<V> {
+    fn new(seed: u64) -> Self {
+        let mut random = Random::new(seed);
+        let pairs = (0..DRAWN).map(|_| {
+            let input = Input::random(&mut random);
+            let (refusal, judged) = (input.refusal(), input.judged());
+            (input, refusal, judged)
+        });
+        Drawn(pairs.collect())
+    }
+
+    fn differing(&self, program: &Program<V>) -> usize {
+        let pairs = self.0.iter();
+        pairs
+            .filter(|(input, refusal, judged)| program.step(input, *refusal) != *judged)
+            .count()
+    }
+
+    fn assert_found(&self, wrong: &str, program: Program<V>) {
+        let differing = self.differing(&program);
+        assert!(
+            differing * 1000 > DRAWN,
+            "{wrong}, {}: {differing} of {DRAWN}",
+            V::CALL
+        );
+    }
+
+    /// What counts and densities have in common.
+    fn assert_all_found(&self) {
+        assert_eq!(self.differing(&Program::right()), 0);
+        macro_rules! found {
+            ($wrong:literal, $field:ident: $rule:expr) => {
+                let program = Program {
+                    $field: $rule,
+                    ..Program::right()
+                };
+                self.assert_found($wrong, program);
+            };
+        }
+        found!("no merge", most_merges: |_| 0);
+        found!("one merge a cell", most_merges: |_| 1);
+        found!("the last quad untried", most_merges: |behind| if behind == 0 { 0 } else { 29 });
+        found!("chi at T", merges: |above, chi, t| above >= 0 && chi <= t);
+        found!("the child's depth", merges: |above, chi, t| above >= -1 && chi < t);
+        found!("above M alone", merges: |above, chi, t| above > 0 && chi < t);
+        found!("without T", merges: |above, _, _| above >= 0);
+        found!("quads that straddle two parents", are_siblings: |cells| {
+            let [first, ..] = cells;
+            first.depth > 0 && (0..4).all(|place| {
+                cells[place].depth == first.depth && cells[place].hash == first.hash + place as u64
+            })
+        });
+        found!("a zuniq not cleared", cleared: |places| [places.saturating_sub(1), places]);
+        found!("a value not cleared", cleared: |places| [places, places.saturating_sub(1)]);
+        found!("the output cleared before 11 is known", refuse: |refusal, zuniqs, _| {
+            if refusal.number == 11 {
+                zuniqs.fill(0);
+            }
+            refusal
+        });
+        found!("a value written before 11 is known", refuse: |refusal, _, values| {
+            if let (11, Some(first)) = (refusal.number, values.first_mut()) {
+                *first = V::ZERO;
+            }
+            refusal
+        });
+        found!("a refused call clears the last value", refuse: |refusal, _, values| {
+            if let Some(last) = values.last_mut() {
+                *last = V::ZERO;
+            }
+            refusal
+        });
+        found!("the place of a refusal lost", refuse: |refusal, _, _| Refusal { place: 0, ..refusal });
+        found!("places for the merged entries alone", is_full: |places, entries| places < entries);
+        found!("both taking the left alone", rule: |k, left, right| match (left, right) {
+            (Some(left), Some(_)) => Some(left),
+            _ => V::rule(k, left, right),
+        });
+        found!("both taking the right alone", rule: |k, left, right| match (left, right) {
+            (Some(_), Some(right)) => Some(right),
+            _ => V::rule(k, left, right),
+        });
+    }
+}
+
+#[test]
+fn no_wrong_pool_is_missed() {
+    let drawn = Drawn::<u32>::new(31);
+    drawn.assert_all_found();
+    // Counts that a wrong split makes too large are cut off.
+    let split = |split| Program {
+        split,
+        rule: |_, left, right| Some(left.unwrap_or(0u32).saturating_add(right.unwrap_or(0))),
+        merged: |counts| counts.into_iter().fold(0, u32::saturating_add),
+        ..Program::right()
+    };
+    assert_eq!(drawn.differing(&split(|_, count| count.split())), 0);
+    drawn.assert_found(
+        "the remainder to the last children",
+        split(|_, count| {
+            let [a, b, c, d] = count.split();
+            [d, c, b, a]
+        }),
+    );
+    drawn.assert_found(
+        "the remainder to the first child",
+        split(|_, count| [count / 4 + count % 4, count / 4, count / 4, count / 4]),
+    );
+    drawn.assert_found("the remainder lost", split(|_, count| [count / 4; 4]));
+    drawn.assert_found("a copy for each child", split(|_, count| [count; 4]));
+    drawn.assert_found("all to the first child", split(|_, count| [count, 0, 0, 0]));
+    drawn.assert_found(
+        "a level's split skipped",
+        split(|depth, count| match depth {
+            5 => [count, 0, 0, 0],
+            _ => count.split(),
+        }),
+    );
+    drawn.assert_found(
+        "the last level's split skipped",
+        split(|depth, count| match depth {
+            28 => [count, 0, 0, 0],
+            _ => count.split(),
+        }),
+    );
+    drawn.assert_found(
+        "the first level's split skipped",
+        split(|depth, count| match depth {
+            0 => [count, 0, 0, 0],
+            _ => count.split(),
+        }),
+    );
+    let rule = |rule| Program {
+        rule,
+        ..Program::right()
+    };
+    drawn.assert_found(
+        "the left alone dropped",
+        rule(|_, left, right| Some(left.unwrap_or(0) + right?)),
+    );
+    drawn.assert_found(
+        "the right alone dropped",
+        rule(|_, left, right| Some(left? + right.unwrap_or(0))),
+    );
+    drawn.assert_found(
+        "the right alone as 0",
+        rule(|_, left, right| Some(left.map_or(0, |count| count + right.unwrap_or(0)))),
+    );
+    drawn.assert_found(
+        "the merged mean",
+        Program {
+            merged: |counts| u32::merged(counts) / 4,
+            ..Program::right()
+        },
+    );
+}
+
+#[test]
+fn no_wrong_product_is_missed() {
+    let drawn = Drawn::<Float>::new(32);
+    drawn.assert_all_found();
+    let rule = |rule| Program {
+        rule,
+        ..Program::right()
+    };
+    drawn.assert_found(
+        "alone kept",
+        rule(|k, left, right| match (left, right) {
+            (Some(_), Some(_)) => Float::rule(k, left, right),
+            _ => left.or(right),
+        }),
+    );
+    drawn.assert_found(
+        "left × right first",
+        rule(|k, left, right| Some(Float(k * (left?.0 * right?.0)))),
+    );
+    drawn.assert_found(
+        "k × right first",
+        rule(|k, left, right| Some(Float((k * right?.0) * left?.0))),
+    );
+    drawn.assert_found(
+        "without k",
+        rule(|_, left, right| Some(Float(left?.0 * right?.0))),
+    );
+    drawn.assert_found(
+        "without the sign of −0",
+        rule(|k, left, right| Some(Float(Float::rule(k, left, right)?.0 + 0.0))),
+    );
+    drawn.assert_found(
+        "subnormal ones as 0",
+        rule(|k, left, right| {
+            let product = Float::rule(k, left, right)?;
+            match product.0.is_subnormal() {
+                true => Some(Float(0.0)),
+                false => Some(product),
+            }
+        }),
+    );
+    drawn.assert_found(
+        "a quarter for each child",
+        Program {
+            split: |_, density| [Float(density.0 / 4.0); 4],
+            ..Program::right()
+        },
+    );
+    drawn.assert_found(
+        "a level's split skipped",
+        Program {
+            split: |depth, density| match depth {
+                5 => [density, Float(0.0), Float(0.0), Float(0.0)],
+                _ => density.split(),
+            },
+            ..Program::right()
+        },
+    );
+}
