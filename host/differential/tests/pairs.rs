@@ -1,16 +1,17 @@
 //! The pairs of maps drawn: none of what they are to show is rare, and pooling has no order.
 
 use differential::{
-    cells::{Cell, DEPTH_MAX},
+    cells::{cells_to, Cell, DEPTH_MAX},
     compare::Kind,
     floats::Float,
     kinds::Pool,
     lists::Step,
+    maps::Map,
     pairs::{overlay, Combine, Input, Seen},
     random::Random,
 };
 
-const DRAWN: usize = 20_000;
+const DRAWN: usize = 10_000;
 
 /// A pair with what is to come out.
 struct Drawn<V: Combine> {
@@ -205,6 +206,36 @@ fn no_kind_of_product_is_rare() {
         }),
     ]);
     assert_none_is_rare(&drawn(22), &classes);
+}
+
+/// "The largest cells that lie in an entry of at least one map and, for each map, lie in one of its
+/// entries or overlap none", among all cells of depths 0 to 3.
+#[test]
+fn no_cell_of_an_overlay_is_made_up_or_missed() {
+    let lies_in = |inner: Cell, outer: Cell| inner.depth >= outer.depth && inner.overlaps(outer);
+    let mut random = Random::new(24);
+    for _ in 0..300 {
+        let maps = [0, 1].map(|_| {
+            let depth = random.below(4) as u8;
+            Map::random(depth, &mut random)
+        });
+        let counted =
+            |map: &Map| -> Vec<(Cell, u32)> { map.cells().iter().map(|&cell| (cell, 1)).collect() };
+        let fits = |cell: Cell| {
+            let over = |map: &Map| map.cells().iter().any(|&entry| lies_in(cell, entry));
+            let apart = |map: &Map| !map.cells().iter().any(|&entry| cell.overlaps(entry));
+            maps.iter().any(over) && maps.iter().all(|map| over(map) || apart(map))
+        };
+        let is_largest =
+            |cell: &Cell| fits(*cell) && !(0..cell.depth).any(|depth| fits(cell.ancestor(depth)));
+        let mut largest: Vec<Cell> = cells_to(3).filter(is_largest).collect();
+        largest.sort_by_key(|cell| cell.zuniq());
+        let seen = overlay(&counted(&maps[0]), &counted(&maps[1]), |_, count| {
+            [count; 4]
+        });
+        let seen: Vec<Cell> = seen.iter().map(|seen| seen.cell).collect();
+        assert_eq!(seen, largest, "{maps:?}");
+    }
 }
 
 /// "Swapped, with all else handed in alike, they give the same answer and output."

@@ -6,14 +6,14 @@ use differential::{
     cells::Cell,
     floats::Float,
     lists::{Answer, Step},
-    pairs::{overlay, Combine, Input},
+    pairs::{overlay, Combine, Given, Input},
     random::Random,
 };
 use mom::Refusal;
 
-const DRAWN: usize = 10_000;
+const DRAWN: usize = 5_000;
 
-struct Program<V> {
+struct Program<V: Combine> {
     /// By the depth of what is split.
     split: fn(u8, V) -> [V; 4],
     rule: fn(f64, Option<V>, Option<V>) -> Option<V>,
@@ -28,6 +28,13 @@ struct Program<V> {
     refuse: fn(Refusal, &mut [u64], &mut [V]) -> Refusal,
     /// Whether what the table refuses by 11 is, by the places and the entries of the map.
     is_full: fn(usize, usize) -> bool,
+    total: fn(&Input<V>) -> V::Total,
+}
+
+fn total_of<V: Combine>(maps: &[&Given<V>]) -> V::Total {
+    let entries = maps.iter().flat_map(|map| map.entries());
+    let entries: Vec<_> = entries.map(|(cell, value)| (cell.zuniq(), value)).collect();
+    V::total(&entries)
 }
 
 impl<V: Combine> Program<V> {
@@ -46,6 +53,7 @@ impl<V: Combine> Program<V> {
             cleared: |places| [places; 2],
             refuse: |refusal, _, _| refusal,
             is_full: |_, _| true,
+            total: |input| total_of(&[&input.left, &input.right]),
         }
     }
 
@@ -112,8 +120,7 @@ impl<V: Combine> Program<V> {
         let [of_zuniqs, of_values] = (self.cleared)(places - written);
         zuniqs[written..][..of_zuniqs].fill(0);
         values[written..][..of_values].fill(V::ZERO);
-        let map: Vec<_> = map.iter().map(|&(cell, v)| (cell.hash, v)).collect();
-        Ok((entries, V::total(&map)))
+        Ok((entries, (self.total)(input)))
     }
 }
 
@@ -267,6 +274,13 @@ fn no_wrong_pool_is_missed() {
     drawn.assert_found(
         "the right alone as 0",
         rule(|_, left, right| Some(left.map_or(0, |count| count + right.unwrap_or(0)))),
+    );
+    drawn.assert_found(
+        "the total of the left map",
+        Program {
+            total: |input| total_of(&[&input.left]),
+            ..Program::right()
+        },
     );
     drawn.assert_found(
         "the merged mean",

@@ -1,0 +1,159 @@
+//! Every intended difference in combining, as `differences.rs` has those of the other sections.
+
+use std::{
+    fmt::Debug,
+    panic::{catch_unwind, AssertUnwindSafe},
+};
+
+use mom::{pool, Map, Refusal};
+use oracle::run;
+
+type Entries<V> = Vec<(u64, V)>;
+
+/// The call panics under `checked` and answers `wrapped` under `release`.
+fn assert_overflows<T: Debug + PartialEq>(call: impl FnOnce() -> T, wrapped: T) {
+    if cfg!(debug_assertions) {
+        assert!(catch_unwind(AssertUnwindSafe(call)).is_err());
+    } else {
+        assert_eq!(call(), wrapped);
+    }
+}
+
+fn entries<V: Copy>(cells: &[(u8, u64, V)]) -> Entries<V> {
+    let cells = cells.iter();
+    cells
+        .map(|&(d, h, value)| (run::to_zuniq(d, h), value))
+        .collect()
+}
+
+/// Four cells of count 1, and a map without any.
+const FOUR: [(u8, u64, u32); 4] = [(1, 0, 1), (1, 1, 1), (1, 2, 1), (1, 3, 1)];
+const NONE: [(u64, u32); 0] = [];
+
+/// Two maps by their depths and entries, with M and T.
+type Pair<'a> = (u8, &'a [(u64, u32)], u8, &'a [(u64, u32)], u8, f64);
+
+fn original((dl, left, dr, right, m, t): Pair) -> Entries<u32> {
+    let (left, right) = (run::mom(dl, left.to_vec()), run::mom(dr, right.to_vec()));
+    run::pool(left, right, m, t).1
+}
+
+/// Our answer, and the entries in both buffers where it is accepted; where not, that they are as before.
+fn ours((dl, left, dr, right, m, t): Pair) -> Result<Entries<u32>, Refusal> {
+    let (left_zuniqs, left_counts): (Vec<u64>, Vec<u32>) = left.iter().copied().unzip();
+    let (right_zuniqs, right_counts): (Vec<u64>, Vec<u32>) = right.iter().copied().unzip();
+    let left = Map {
+        depth: dl,
+        zuniqs: &left_zuniqs,
+        values: &left_counts,
+    };
+    let right = Map {
+        depth: dr,
+        zuniqs: &right_zuniqs,
+        values: &right_counts,
+    };
+    let (mut zuniqs, mut counts) = ([77; 8], [77; 8]);
+    let answer = pool(left, right, m, t, &mut zuniqs, &mut counts);
+    let entries = zuniqs.into_iter().zip(counts);
+    let entries: Entries<u32> = match answer {
+        Ok(added) => entries.take(added.entries).collect(),
+        Err(_) => entries.collect(),
+    };
+    if answer.is_err() {
+        assert_eq!(entries, [(77, 77); 8]);
+    }
+    answer.map(|_| entries)
+}
+
+fn assert_refused(pair: Pair, number: u8, place: u64) {
+    assert_eq!(ours(pair), Err(Refusal { number, place }));
+}
+
+/// The original starts from the first cell at the result's depth.
+#[test]
+fn the_pool_refuses_a_depth_over_29() {
+    for (dl, dr) in [(30, 0), (0, 30)] {
+        let pair = (dl, &NONE[..], dr, &NONE[..], 0, 1.0);
+        assert_overflows(|| original(pair), vec![]);
+        assert_refused(pair, 1, 0);
+    }
+}
+
+/// The original keeps all, as with the mergers alone.
+#[test]
+fn the_pool_refuses_a_depth_threshold_over_29_and_a_threshold_that_is_nan() {
+    let four = entries(&FOUR);
+    for (m, t, number) in [(30, 3.5, 2), (0, f64::NAN, 3)] {
+        let pair = (1, &four[..], 0, &NONE[..], m, t);
+        assert_eq!(original(pair), four);
+        assert_refused(pair, number, 0);
+    }
+}
+
+/// The original takes any entries as they come.
+#[test]
+fn the_pool_refuses_a_map_that_is_none() {
+    for (depth, map, place) in [
+        (29, vec![(2, 1)], 0),
+        (0, entries(&[(1, 0, 1)]), 0),
+        (1, entries(&[(1, 0, 1), (1, 0, 1)]), 1),
+        (1, entries(&[(1, 1, 1), (1, 0, 1)]), 1),
+        (1, entries(&[(1, 0, 1), (0, 0, 1)]), 1),
+    ] {
+        let (left, right) = (
+            (depth, &map[..], 0, &NONE[..], 0, 1.0),
+            (0, &NONE[..], depth, &map[..], 0, 1.0),
+        );
+        for pair in [left, right] {
+            assert_eq!(original(pair), map);
+            assert_refused(pair, 5, place);
+        }
+    }
+    let zero = [(0, 1)];
+    let pair = (0, &zero[..], 0, &NONE[..], 0, 1.0);
+    assert_overflows(|| original(pair), zero.to_vec());
+    assert_refused(pair, 5, 0);
+}
+
+/// What the original makes of entries that overlap overlaps too.
+#[test]
+fn the_pool_makes_nothing_that_overlaps() {
+    let (twice, one) = (entries(&[(0, 0, 4), (0, 0, 4)]), entries(&[(1, 0, 1)]));
+    let pair = (0, &twice[..], 1, &one[..], 0, 0.0);
+    let apart = entries(&[(1, 0, 2), (1, 1, 1), (1, 2, 1), (1, 3, 1), (0, 0, 4)]);
+    assert_eq!(original(pair), apart);
+    assert_refused(pair, 5, 1);
+}
+
+/// The original adds up only what it merges.
+#[test]
+fn the_pool_refuses_counts_that_overflow_together() {
+    let left = entries(&[(1, 0, u32::MAX)]);
+    let right = entries(&[(1, 1, 1), (1, 2, 0), (1, 3, 0)]);
+    let pair = |t| (1, &left[..], 1, &right[..], 0, t);
+    let merged = entries(&[(0, 0, 0)]);
+    assert_overflows(|| original(pair(f64::INFINITY)), merged);
+    assert_refused(pair(f64::INFINITY), 10, 0);
+    let kept = [&left[..], &right].concat();
+    assert_eq!(original(pair(0.0)), kept);
+    assert_refused(pair(0.0), 10, 0);
+}
+
+/// No difference: the original tries every quad as its last cell comes, the last one too, whichever map
+/// that is from.
+#[test]
+fn the_pool_tries_the_last_quad_as_the_original_does() {
+    let last = [(1, 44, 1), (1, 45, 1), (1, 46, 1), (1, 47, 1)];
+    let four = entries(&last);
+    let assert_merged = |pair: Pair, count| {
+        let merged = entries(&[(0, 11, count)]);
+        assert_eq!((original(pair), ours(pair)), (merged.clone(), Ok(merged)));
+    };
+    for cut in 0..=4 {
+        let (left, right) = four.split_at(cut);
+        assert_merged((1, left, 1, right, 0, 3.5), 4);
+    }
+    let (base, one) = (entries(&[(0, 11, 4)]), entries(&last[3..]));
+    assert_merged((0, &base, 1, &one, 0, 3.5), 5);
+    assert_merged((1, &one, 0, &base, 0, 3.5), 5);
+}
