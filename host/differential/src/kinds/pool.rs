@@ -52,7 +52,7 @@ impl Combine for u32 {
     }
 
     fn few() -> &'static [u32] {
-        &[0, 1, 6]
+        &[1, 6]
     }
 
     fn original(input: &Input<u32>) -> Vec<(u64, u32)> {

@@ -24,7 +24,7 @@ impl<V: Combine> Input<V> {
         let maps = in_a_base_cell();
         let pairs = (0..maps.len() * maps.len()).flat_map(move |pair| {
             let (left, right) = (&maps[pair / maps.len()], &maps[pair % maps.len()]);
-            let inputs = [(0, 0.0), (0, 3.5), (1, f64::INFINITY)];
+            let inputs = [(0, 0.0), (0, 3.5), (0, f64::INFINITY), (1, f64::INFINITY)];
             inputs.map(|(m, t)| Self::new(left.clone(), right.clone(), m, t).with_places())
         });
         pairs.chain(nested())
