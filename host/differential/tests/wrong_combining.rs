@@ -154,9 +154,25 @@ impl<V: Combine> Drawn<V> {
         );
     }
 
+    /// A program that refuses as `refusal` says, and is right in all else.
+    fn assert_refusal_is_found(&self, wrong: &str, refusal: fn(&Input<V>) -> Option<Refusal>) {
+        let pairs = self.0.iter();
+        let differing = pairs
+            .filter(|(input, right, _)| refusal(input) != *right)
+            .count();
+        assert!(
+            differing * 1000 > DRAWN,
+            "{wrong}, {}: {differing} of {DRAWN}",
+            V::CALL
+        );
+    }
+
     /// What counts and densities have in common.
     fn assert_all_found(&self) {
         assert_eq!(self.differing(&Program::right()), 0);
+        self.assert_refusal_is_found("the right map before the left", |input| {
+            input.swapped().refusal()
+        });
         macro_rules! found {
             ($wrong:literal, $field:ident: $rule:expr) => {
                 let program = Program {

@@ -34,15 +34,18 @@ impl Combine for u32 {
         counts.map(|&count| count as u64).sum::<u64>() > u32::MAX as u64
     }
 
-    /// As many for a base cell as all cells of the map can have, so that the deepest ones get few or
-    /// none.
+    /// By the cells' areas, so that those far below the largest one get few or none.
     fn even(random: &mut Random, cells: &[Cell]) -> Vec<u32> {
-        let bits = any_of(random, &[4, 12, 24, 28]);
-        let of_base = random.below(1 << bits);
+        let largest = cells.iter().map(|cell| cell.depth).min().unwrap_or(0);
+        let bits = any_of(random, &[4, 12, 20, 24]);
+        let of_largest = random.below(1 << bits) as u32;
         let noise = any_of(random, &[1, 2, 5]);
-        cells
-            .iter()
-            .map(|cell| (of_base >> (2 * cell.depth)) as u32)
+        let even = |cell: &Cell| {
+            let below = 2 * (cell.depth - largest) as u32;
+            of_largest.checked_shr(below).unwrap_or(0)
+        };
+        let counts = cells.iter().map(even);
+        counts
             .map(|count| count + random.below(noise) as u32)
             .collect()
     }

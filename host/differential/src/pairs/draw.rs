@@ -75,10 +75,14 @@ impl<V: Combine> Input<V> {
         };
         input.places = [places; 2];
         input.content = any_of(random, &[0, 1, 1 << 58, u64::MAX, 0x7ff8 << 48 | 5]);
-        if random.below(4) == 0 {
-            for _ in 0..=random.below(5) / 4 {
-                input.change(random);
+        match random.below(16) {
+            0..=2 => input.change(random),
+            3 => (0..2).for_each(|_| input.change(random)),
+            4 => {
+                input.left.change(random);
+                input.right.change(random);
             }
+            _ => {}
         }
         input
     }
@@ -233,14 +237,23 @@ fn apart(cells: &mut Vec<Cell>) {
     });
 }
 
+/// Any depth, the largest one and the least ones more often.
+fn depth(random: &mut Random) -> u8 {
+    match random.below(4) {
+        0 => DEPTH_MAX,
+        1 => random.below(4) as u8,
+        _ => random.below(DEPTH_MAX as u64 + 1) as u8,
+    }
+}
+
 fn spread(random: &mut Random) -> Vec<Cell> {
-    let depth = random.below(DEPTH_MAX as u64 + 1) as u8;
+    let depth = depth(random);
     Map::random(depth, random).cells().to_vec()
 }
 
 /// A cell, and the siblings of all that it lies in, up to some depth: all of them, or some.
 fn chain(random: &mut Random) -> Vec<Cell> {
-    let depth = random.below(DEPTH_MAX as u64 + 1) as u8;
+    let depth = depth(random);
     let path = match random.below(4) {
         0 => 0,
         1 => u64::MAX,
@@ -262,7 +275,7 @@ fn chain(random: &mut Random) -> Vec<Cell> {
 
 /// Cells of one depth that follow each other, merged at random.
 fn merged(random: &mut Random) -> Vec<Cell> {
-    let depth = random.below(DEPTH_MAX as u64 + 1) as u8;
+    let depth = depth(random);
     let n = n_hash(depth);
     let len = any_of(random, &[4, 16, 64, 256]);
     let first = match random.below(3) {
