@@ -151,19 +151,16 @@ fn in_a_base_cell<V: Combine>() -> Vec<Given<V>> {
 /// An entry in another one, of every two depths: the larger one is split through all between.
 fn nested<V: Combine>() -> impl Iterator<Item = Input<V>> {
     let depths = (0..=DEPTH_MAX).flat_map(|top| (top..=DEPTH_MAX).map(move |depth| (top, depth)));
-    let ways = depths.flat_map(|depths| [0, u64::MAX, 0x1b1b_1b1b_1b1b_1b1b].map(|p| (depths, p)));
-    ways.flat_map(|((top, bottom), path)| {
-        let base = Cell {
-            depth: 0,
-            hash: path % 12,
-        };
-        let (over, under) = (base.descendant(top, path), base.descendant(bottom, path));
-        let under = over.descendant(bottom, under.hash);
-        let values = V::few().iter();
-        values.flat_map(move |&value| {
-            let map = |cell: Cell| given(cell.depth, &[cell], vec![value]);
-            let inputs = [f64::NEG_INFINITY, f64::INFINITY];
-            inputs.map(|t| Input::new(map(over), map(under), 0, t).with_places())
+    depths.flat_map(|(top, bottom)| {
+        let ways = [(0, 0), (11, u64::MAX), (6, 0x1b1b_1b1b_1b1b_1b1b)];
+        ways.into_iter().flat_map(move |(hash, path)| {
+            let over = Cell { depth: 0, hash }.descendant(top, path);
+            let under = over.descendant(bottom, path);
+            V::few().iter().flat_map(move |&value| {
+                let map = |cell: Cell| given(cell.depth, &[cell], vec![value]);
+                let inputs = [f64::NEG_INFINITY, f64::INFINITY];
+                inputs.map(|t| Input::new(map(over), map(under), 0, t).with_places())
+            })
         })
     })
 }
