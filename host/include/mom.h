@@ -52,6 +52,7 @@ extern "C" {
 #define MOM_DEPTH_OUT_OF_RANGE 1
 #define MOM_DEPTH_THRESHOLD_OUT_OF_RANGE 2
 #define MOM_CHI2_THRESHOLD_IS_NAN 3
+#define MOM_INVALID_FACTOR 3
 #define MOM_LENGTHS_DIFFER 4
 #define MOM_INVALID_MAP 5
 #define MOM_INVALID_MAP_DENSITY 6
@@ -59,6 +60,7 @@ extern "C" {
 #define MOM_CELL_NOT_ABOVE 8
 #define MOM_INVALID_DENSITY 9
 #define MOM_COUNT_OVERFLOW 10
+#define MOM_PRODUCT_NOT_FINITE 10
 #define MOM_NO_SPACE 11
 #define MOM_NOT_A_ZUNIQ 12
 
@@ -232,6 +234,23 @@ uint64_t mom_pool(uint8_t left_depth, const uint64_t *left_zuniqs, size_t lzl,
                   const uint64_t *right_zuniqs, size_t rzl, const uint32_t *right_counts,
                   size_t rcl, uint8_t depth_threshold, double chi2_threshold, uint64_t *zuniqs,
                   size_t zl, uint32_t *counts, size_t cl, uint32_t *total);
+
+/* Multiplies two density maps, each with a depth of its own, into zuniqs and densities, which may
+ * hold anything. A cell that both maps have gets (k * left) * right, a cell that one map has is
+ * dropped. An entry of one map that has entries of the other in it is split: a child has its
+ * parent's density. The products are then merged by the density merger under depth_threshold and
+ * chi2_threshold. The value is the number of entries; every place after the entries is 0. By a
+ * refusal both buffers are left as they were.
+ * Refuses by 1 and 2 as mom_pool does; then by 3: chi2_threshold is a NaN, or k is NaN, infinite
+ * or below 0 (-0 is none of these); then by 4 and 5 as mom_pool does, with ldl, rdl and dl for
+ * lcl, rcl and cl; then by 6: a density is NaN, infinite or below 0, the place is its entry, and
+ * the left map goes before the right one; then by 10: the product of a cell before merging is not
+ * finite; then by 11: zl is less than the number of products before they are merged. */
+uint64_t mom_product(uint8_t left_depth, const uint64_t *left_zuniqs, size_t lzl,
+                     const double *left_densities, size_t ldl, uint8_t right_depth,
+                     const uint64_t *right_zuniqs, size_t rzl, const double *right_densities,
+                     size_t rdl, uint8_t depth_threshold, double chi2_threshold, double k,
+                     uint64_t *zuniqs, size_t zl, double *densities, size_t dl);
 
 #ifdef __cplusplus
 }

@@ -191,6 +191,46 @@ static void pooling(void) {
            "a pool of no entries");
 }
 
+static void multiplying(void) {
+    const uint64_t base[1] = {UINT64_C(1) << 58}, third[1] = {UINT64_C(5) << 56};
+    const double two[1] = {2}, three[1] = {3}, huge[1] = {1e308}, nan[1] = {NAN};
+    uint64_t zuniqs[2] = {5, 5};
+    double densities[2] = {5.5, 5.5};
+
+    expect(answers(mom_product(0, base, 1, two, 1, 30, third, 1, three, 1, 30, NAN, -1, zuniqs, 2,
+                               densities, 2),
+                   MOM_DEPTH_OUT_OF_RANGE, 0), "a product at depth 30");
+    expect(answers(mom_product(0, base, 1, two, 1, 1, third, 1, three, 1, 30, NAN, -1, zuniqs, 2,
+                               densities, 2),
+                   MOM_DEPTH_THRESHOLD_OUT_OF_RANGE, 0), "a product, M = 30");
+    expect(answers(mom_product(0, base, 1, two, 1, 1, third, 1, three, 1, 0, NAN, 1, zuniqs, 2,
+                               densities, 2),
+                   MOM_CHI2_THRESHOLD_IS_NAN, 0), "a product, T a NaN");
+    expect(answers(mom_product(0, base, 1, two, 1, 1, third, 1, three, 1, 0, 0, -1, zuniqs, 2,
+                               densities, 1),
+                   MOM_INVALID_FACTOR, 0), "a product, k = -1");
+    expect(answers(mom_product(0, base, 1, two, 1, 1, third, 1, three, 1, 0, 0, 1, zuniqs, 2,
+                               densities, 1),
+                   MOM_LENGTHS_DIFFER, 0), "a product into two lengths");
+    expect(answers(mom_product(0, base, 1, nan, 1, 0, third, 1, three, 1, 0, 0, 1, zuniqs, 2,
+                               densities, 2),
+                   MOM_INVALID_MAP, 0), "a product of what is no map");
+    expect(answers(mom_product(0, base, 1, nan, 1, 1, third, 1, three, 1, 0, 0, 1, zuniqs, 2,
+                               densities, 2),
+                   MOM_INVALID_MAP_DENSITY, 0), "a product of a NaN");
+    expect(answers(mom_product(0, base, 1, huge, 1, 1, third, 1, three, 1, 0, 0, 1, zuniqs, 0,
+                               densities, 0),
+                   MOM_PRODUCT_NOT_FINITE, 0), "a product that is infinite");
+    expect(answers(mom_product(0, base, 1, two, 1, 1, third, 1, three, 1, 0, 0, 1, zuniqs, 0,
+                               densities, 0),
+                   MOM_NO_SPACE, 0) && zuniqs[0] == 5 && densities[0] == 5.5,
+           "a product into no place");
+    expect(answers(mom_product(0, base, 1, two, 1, 1, third, 1, three, 1, 0, 0, 1, zuniqs, 2,
+                               densities, 2),
+                   MOM_ACCEPTED, 1) && zuniqs[0] == third[0] && densities[0] == 6 &&
+           zuniqs[1] == 0 && densities[1] == 0, "a product of 6");
+}
+
 int main(void) {
     uint64_t n_hash = 5, zuniq = 5, hash = 5;
     uint8_t depth = 5;
@@ -336,6 +376,7 @@ int main(void) {
     rows();
     maps_of_rows();
     pooling();
+    multiplying();
 
     printf("%d passed, %d failed\n", passed, failed);
     return failed > 0;

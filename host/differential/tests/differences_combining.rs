@@ -5,7 +5,7 @@ use std::{
     panic::{catch_unwind, AssertUnwindSafe},
 };
 
-use mom::{pool, Map, Refusal};
+use mom::{pool, product, Map, Refusal};
 use oracle::run;
 
 type Entries<V> = Vec<(u64, V)>;
@@ -156,4 +156,63 @@ fn the_pool_tries_the_last_quad_as_the_original_does() {
     let (base, one) = (entries(&[(0, 11, 4)]), entries(&last[3..]));
     assert_merged((0, &base, 1, &one, 0, 3.5), 5);
     assert_merged((1, &one, 0, &base, 0, 3.5), 5);
+}
+
+/// The original's product of two maps of depth 0, with the bits of its densities.
+fn original_product(k: f64, left: &[(u64, f64)], right: &[(u64, f64)]) -> Vec<(u64, u64)> {
+    let (left, right) = (run::mom(0, left.to_vec()), run::mom(0, right.to_vec()));
+    let entries = run::product(left, right, k, 0, 0.0).1.into_iter();
+    entries.map(|(zuniq, m)| (zuniq, m.to_bits())).collect()
+}
+
+/// The original multiplies (0, 0) of two maps to what is no density, or to one of what are none; ours
+/// refuses and touches nothing.
+fn assert_product_refused(k: f64, left: f64, right: f64, number: u8) {
+    let base = run::to_zuniq(0, 0);
+    let of_original = original_product(k, &[(base, left)], &[(base, right)]);
+    let bits = (k * left * right).to_bits();
+    // A NaN's sign is none of the original's concern.
+    let is_nan = (k * left * right).is_nan() && f64::from_bits(of_original[0].1).is_nan();
+    assert!(is_nan || of_original == [(base, bits)]);
+    let map = |values| Map {
+        depth: 0,
+        zuniqs: &[1 << 58],
+        values,
+    };
+    let (mut zuniqs, mut densities) = ([77; 2], [77.0; 2]);
+    let (left, right) = ([left], [right]);
+    let (z, d) = (&mut zuniqs, &mut densities);
+    let answer = product(map(&left), map(&right), 0, 0.0, k, z, d);
+    assert_eq!(answer, Err(Refusal { number, place: 0 }));
+    assert_eq!((zuniqs, densities), ([77; 2], [77.0; 2]));
+}
+
+const NO_DENSITIES: [f64; 5] = [
+    f64::NAN,
+    f64::INFINITY,
+    f64::NEG_INFINITY,
+    -1.0,
+    -5e-324, // the greatest f64 below 0
+];
+
+#[test]
+fn the_product_refuses_a_factor_that_is_nan_infinite_or_below_0() {
+    for k in NO_DENSITIES {
+        assert_product_refused(k, 1.0, 1.0, 3);
+    }
+}
+
+#[test]
+fn the_product_refuses_densities_that_are_nan_infinite_or_below_0() {
+    for density in NO_DENSITIES {
+        assert_product_refused(1.0, density, 1.0, 6);
+        assert_product_refused(1.0, 1.0, density, 6);
+    }
+}
+
+#[test]
+fn the_product_refuses_what_is_not_finite() {
+    assert_product_refused(1.0, f64::MAX, 2.0, 10);
+    assert_product_refused(2.0, f64::MAX, 0.25, 10);
+    assert_product_refused(2.0, f64::MAX, 0.0, 10);
 }

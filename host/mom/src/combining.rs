@@ -33,6 +33,25 @@ unsafe extern "C" {
         cl: usize,
         total: &mut u32,
     ) -> u64;
+    fn mom_product(
+        left_depth: u8,
+        left_zuniqs: *const u64,
+        lzl: usize,
+        left_densities: *const f64,
+        ldl: usize,
+        right_depth: u8,
+        right_zuniqs: *const u64,
+        rzl: usize,
+        right_densities: *const f64,
+        rdl: usize,
+        depth_threshold: u8,
+        chi2_threshold: f64,
+        k: f64,
+        zuniqs: *mut u64,
+        zl: usize,
+        densities: *mut f64,
+        dl: usize,
+    ) -> u64;
 }
 
 /// The word of the pool's call.
@@ -102,6 +121,51 @@ pub fn pool(
     );
     let entries = raw::accepted(word)? as usize;
     Ok(Added { entries, total })
+}
+
+/// Multiplies two density maps into `zuniqs` and `densities`, which may hold anything. A cell that both
+/// maps have gets (`k` × left) × right, a cell that one map has is dropped. Where an entry of one map
+/// has entries of the other in it, it is split: a child has its parent's density. What comes out is
+/// merged under the two thresholds. Answers the number of entries; every place after them is 0. A
+/// refused call leaves both buffers as they were.
+///
+/// Refused by 1 and 2 as [`pool`] is; then by 3: the chi-square threshold is a NaN, or `k` is NaN,
+/// infinite or below 0 (−0 is none of these); then by 4 and 5 as [`pool`] is; then by 6: a density is
+/// NaN, infinite or below 0, the place is its entry, and the left map goes before the right one; then
+/// by 10: the product of a cell before merging is not finite; then by 11: the output has fewer places
+/// than there are such products.
+pub fn product(
+    left: Map<f64>,
+    right: Map<f64>,
+    depth_threshold: u8,
+    chi2_threshold: f64,
+    k: f64,
+    zuniqs: &mut [u64],
+    densities: &mut [f64],
+) -> Result<usize, Refusal> {
+    // SAFETY: as for the pool.
+    let word = unsafe {
+        mom_product(
+            left.depth,
+            left.zuniqs.as_ptr(),
+            left.zuniqs.len(),
+            left.values.as_ptr(),
+            left.values.len(),
+            right.depth,
+            right.zuniqs.as_ptr(),
+            right.zuniqs.len(),
+            right.values.as_ptr(),
+            right.values.len(),
+            depth_threshold,
+            chi2_threshold,
+            k,
+            zuniqs.as_mut_ptr(),
+            zuniqs.len(),
+            densities.as_mut_ptr(),
+            densities.len(),
+        )
+    };
+    Ok(raw::accepted(word)? as usize)
 }
 
 #[cfg(test)]

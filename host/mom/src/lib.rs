@@ -25,7 +25,7 @@ pub mod rows;
 
 use std::{error::Error, fmt};
 
-pub use combining::{pool, Map};
+pub use combining::{pool, product, Map};
 
 /// A call that was refused: which of the scope's refusals, and where, counted from 0.
 #[derive(Clone, Copy, Debug, PartialEq, Eq, Hash)]

@@ -40,6 +40,7 @@ pub use to_zuniq::ToZuniq;
 pub type AddCounts = Add<u32>;
 pub type AddDensities = Add<Float>;
 pub type Pool = Pair<u32>;
+pub type Product = Pair<Float>;
 
 pub struct Entry {
     pub name: &'static str,
@@ -66,6 +67,7 @@ pub static KINDS: &[Entry] = &[
     entry::<AddCounts>(),
     entry::<AddDensities>(),
     entry::<Pool>(),
+    entry::<Product>(),
     entry::<GetCellContaining>(),
     entry::<GetOverlappedCells>(),
     entry::<DensityOfCount>(),

@@ -1,11 +1,13 @@
 //! Two density maps multiplied.
 
+use mom::Map;
 use oracle::run;
 
 use crate::{
     cells::Cell,
     floats::{magnitude, near, Float},
-    pairs::{Combine, Input},
+    lists::Answer,
+    pairs::{Call, Combine, Input},
     quads::{around_one, density, unit_density, valid},
     random::{any_of, Random},
 };
@@ -89,5 +91,33 @@ impl Combine for Float {
         let (_, entries) = run::product(left, right, input.factor.0, m, t);
         let entries = entries.into_iter();
         entries.map(|(zuniq, m)| (zuniq, Float(m))).collect()
+    }
+}
+
+impl Call for Float {
+    fn combine(input: &Input<Float>, zuniqs: &mut [u64], values: &mut [Float]) -> Answer<Float> {
+        let numbers = |values: &[Float]| -> Vec<f64> { values.iter().map(|m| m.0).collect() };
+        let given = [&input.left, &input.right].map(|map| numbers(&map.values));
+        let left = Map {
+            depth: input.left.depth,
+            zuniqs: &input.left.zuniqs,
+            values: &given[0],
+        };
+        let right = Map {
+            depth: input.right.depth,
+            zuniqs: &input.right.zuniqs,
+            values: &given[1],
+        };
+        let (m, t, k) = (
+            input.depth_threshold,
+            input.chi2_threshold.0,
+            input.factor.0,
+        );
+        let mut densities = numbers(values);
+        let answer = mom::product(left, right, m, t, k, zuniqs, &mut densities);
+        for (place, density) in densities.into_iter().enumerate() {
+            values[place] = Float(density);
+        }
+        answer.map(|entries| (entries, ()))
     }
 }
