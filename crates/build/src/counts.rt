@@ -146,12 +146,14 @@ fn push_all(
     let mut n = held;
     let mut i = 0;
     while i < hashes.len() {
+        let hash = hashes[i];
         n = push(
             zuniqs,
             counts,
             n,
             depth,
-            hashes[i],
+            hash,
+            Zuniq64::to_zuniq_unchecked(depth, hash),
             batch[i],
             depth_threshold,
             chi2_threshold,
@@ -161,22 +163,23 @@ fn push_all(
     n
 }
 
-// Appends a cell behind n entries, through the free part of the buffers, and merges what can be.
-// Answers the number of entries.
+// Appends a cell, given with its zuniq, behind n entries, through the free part of the buffers, and
+// merges what can be. Answers the number of entries.
 pub fn push(
     zuniqs: &mut [u64],
     counts: &mut [u32],
     n: usize,
     depth: u8,
     hash: u64,
+    zuniq: u64,
     count: u32,
     depth_threshold: u8,
     chi2_threshold: f64,
 ) -> usize
-    requires { ⌜ Stands 29 n (now zuniqs) (now counts) × (n < length (now zuniqs)) × (n < length (now counts)) × (depth ≤ 29) × (hash < nHash depth) × (count + totalOf (held 29 n (now zuniqs) (now counts)) ≤ 4294967295) ⌝ }
+    requires { ⌜ Stands 29 n (now zuniqs) (now counts) × (n < length (now zuniqs)) × (n < length (now counts)) × IsZuniqOf 29 zuniq depth hash × (count + totalOf (held 29 n (now zuniqs) (now counts)) ≤ 4294967295) ⌝ }
     ensures { λ r. ⌜ Pushed (acceptCounts «depth_threshold» «chi2_threshold») 29 n (entry depth hash count) (now (zuniqs .entry)) (now (counts .entry)) r (now (zuniqs .exit)) (now (counts .exit)) ⌝ }
 {
-    put_zuniq(&mut zuniqs[n..], Zuniq64::to_zuniq_unchecked(depth, hash));
+    put_zuniq(&mut zuniqs[n..], zuniq);
     put_count(&mut counts[n..], count);
     collapse(
         zuniqs,

@@ -134,12 +134,14 @@ fn push_all(
     let mut n = held;
     let mut i = 0;
     while i < hashes.len() {
+        let hash = hashes[i];
         n = push(
             zuniqs,
             densities,
             n,
             depth,
-            hashes[i],
+            hash,
+            Zuniq64::to_zuniq_unchecked(depth, hash),
             batch[i],
             depth_threshold,
             chi2_threshold,
@@ -149,22 +151,23 @@ fn push_all(
     n
 }
 
-// Appends a cell behind n entries, through the free part of the buffers, and merges what can be.
-// Answers the number of entries.
+// Appends a cell, given with its zuniq, behind n entries, through the free part of the buffers, and
+// merges what can be. Answers the number of entries.
 pub fn push(
     zuniqs: &mut [u64],
     densities: &mut [f64],
     n: usize,
     depth: u8,
     hash: u64,
+    zuniq: u64,
     density: f64,
     depth_threshold: u8,
     chi2_threshold: f64,
 ) -> usize
-    requires { ⌜ Stands 29 n (now zuniqs) (now densities) × (n < length (now zuniqs)) × (n < length (now densities)) × (depth ≤ 29) × (hash < nHash depth) ⌝ }
+    requires { ⌜ Stands 29 n (now zuniqs) (now densities) × (n < length (now zuniqs)) × (n < length (now densities)) × IsZuniqOf 29 zuniq depth hash ⌝ }
     ensures { λ r. ⌜ Pushed (acceptDensities «depth_threshold» «chi2_threshold») 29 n (entry depth hash density) (now (zuniqs .entry)) (now (densities .entry)) r (now (zuniqs .exit)) (now (densities .exit)) ⌝ }
 {
-    put_zuniq(&mut zuniqs[n..], Zuniq64::to_zuniq_unchecked(depth, hash));
+    put_zuniq(&mut zuniqs[n..], zuniq);
     put_density(&mut densities[n..], density);
     collapse(
         zuniqs,

@@ -10,33 +10,33 @@ use Rattle.build.specs.Map.{Entry, Merger}
 use Rattle.build.specs.Promises.{Sums}
 use Rattle.build.specs.Counts.{totalOf}
 use Rattle.combine.specs.Rules.{kept, splitCount, poolRule}
-use Rattle.combine.specs.Heads.{At, used, takesLeft, takesRight, shows, Turned}
+use Rattle.combine.specs.Heads.{At, used, takesLeft, takesRight, shows, Turned, zuniqShown}
 use Rattle.combine.specs.Slices.{entriesOf, Holds, Outcome, Room, CanKeep}
-use Rattle.combine.specs.Counts.{asEntry, sawOf, pooled, poolCells, TotalFits}
+use Rattle.combine.specs.Counts.{asEntry, zuniqIn, sawOf, pooled, poolCells, TotalFits}
 use Rattle.combine.specs.declared.Pass.{Pass}
-use Rattle.combine.specs.declared.counts.Dhv.{Dhv}
+use Rattle.combine.specs.declared.counts.Dhzv.{Dhzv}
 use Rattle.combine.specs.declared.counts.LhsRhsBoth.{LhsRhsBoth}
 use Rattle.combine.proofs.Kept.{kept-pool-total}
 use Rattle.combine.proofs.Outcomes.{Wrote, wrote-next, total-append, wrote-total}
 use Rattle.combine.proofs.Shown.{shown-can-keep}
 use Rattle.combine.proofs.Walking.{Walking, Ready, ready-shown, shown-part}
 
-abbrev pub blank : Dhv
-blank = record { depth = 0; hash = 0; value = 0 }
+abbrev pub blank : Dhzv
+blank = record { depth = 0; hash = 0; zuniq = 0; value = 0 }
 
 -- ---- a cell that is shown
-module _ {lz lv rz rv zs₀ vs₀ zs vs : List ℕ} {pass : Pass} {accept : ℕ → Float → Merger ℕ} {n m : ℕ} {l r : At Dhv} {lp rp : List Dhv}
-    (w : Ready splitCount poolRule asEntry blank lz lv rz rv (Wrote pass accept zs₀ vs₀ n zs vs) l r lp rp m)
+module _ {lz lv rz rv zs₀ vs₀ zs vs : List ℕ} {pass : Pass} {accept : ℕ → Float → Merger ℕ} {n m : ℕ} {l r : At Dhzv} {lp rp : List Dhzv}
+    (w : Ready splitCount poolRule asEntry blank zuniqIn lz lv rz rv (Wrote pass accept zs₀ vs₀ n zs vs) l r lp rp m)
     (s : LhsRhsBoth) (t : Turned asEntry 29 (l .head) (r .head) (shows (sawOf s))) where
   -- It is counted or pushed, and the heads that it takes are used up.
-  pub shown-kept : {zs′ vs′ : List ℕ} {n′ : ℕ} {tl tr : Bool} (c : Dhv) → asEntry c ≡ pooled s → Outcome pass accept n (asEntry c ∷ []) zs vs n′ zs′ vs′ → length zs′ ≡ length zs → length vs′ ≡ length vs
-      → tl ≡ takesLeft (sawOf s) → tr ≡ takesRight (sawOf s) → Walking splitCount poolRule asEntry blank lz lv rz rv (Wrote pass accept zs₀ vs₀ n′ zs′ vs′) (used tl l) (used tr r) lp rp
+  pub shown-kept : {zs′ vs′ : List ℕ} {n′ : ℕ} {tl tr : Bool} (c : Dhzv) → asEntry c ≡ pooled s → Outcome pass accept n (asEntry c ∷ []) zs vs n′ zs′ vs′ → length zs′ ≡ length zs → length vs′ ≡ length vs
+      → tl ≡ takesLeft (sawOf s) → tr ≡ takesRight (sawOf s) → Walking splitCount poolRule asEntry blank zuniqIn lz lv rz rv (Wrote pass accept zs₀ vs₀ n′ zs′ vs′) (used tl l) (used tr r) lp rp
   shown-kept {zs′} {vs′} {n′} {tl} {tr} c e o p q f g =
       ready-shown w (sawOf s) t (Wrote pass accept zs₀ vs₀ n′ zs′ vs′) f g (λ d k. wrote-next (pooled s ∷ []) k (subst (λ (e : Entry ℕ). Outcome pass accept n (e ∷ []) zs vs n′ zs′ vs′) e o) p q)
 
-module _ {lz lv rz rv zs₀ vs₀ zs vs : List ℕ} {pass : Pass} {accept : ℕ → Float → Merger ℕ} {n m : ℕ} {l r : At Dhv} {lp rp : List Dhv} (h : Holds lz lv) (k : Holds rz rv)
+module _ {lz lv rz rv zs₀ vs₀ zs vs : List ℕ} {pass : Pass} {accept : ℕ → Float → Merger ℕ} {n m : ℕ} {l r : At Dhzv} {lp rp : List Dhzv} (h : Holds lz lv) (k : Holds rz rv)
     (fits : totalOf (entriesOf lz lv) + totalOf (entriesOf rz rv) ≤ 4294967295)
-    (w : Ready splitCount poolRule asEntry blank lz lv rz rv (Wrote pass accept zs₀ vs₀ n zs vs) l r lp rp m)
+    (w : Ready splitCount poolRule asEntry blank zuniqIn lz lv rz rv (Wrote pass accept zs₀ vs₀ n zs vs) l r lp rp m)
     (s : LhsRhsBoth) (t : Turned asEntry 29 (l .head) (r .head) (shows (sawOf s))) where
   abbrev cells : List (Entry ℕ)
   cells = kept poolRule (w .walking .done)
@@ -53,8 +53,8 @@ module _ {lz lv rz rv zs₀ vs₀ zs vs : List ℕ} {pass : Pass} {accept : ℕ 
   shown-fits = omega (arith, kept-fits)
 
   -- The cell can be counted or pushed.
-  pub shown-keeps : ((M : ℕ) (T : Float) → Sums (accept M T) (λ n. n)) → Room pass (poolCells lz lv rz rv) zs₀ vs₀ → (c : Dhv) → asEntry c ≡ pooled s → CanKeep pass n (asEntry c) zs vs × TotalFits pass n c zs vs
-  shown-keeps sums room c e = (rw e (shown-can-keep w (w .walking .wrote) room (sawOf s) t (pooled s) refl), go pass (w .walking .wrote))
+  pub shown-keeps : ((M : ℕ) (T : Float) → Sums (accept M T) (λ n. n)) → Room pass (poolCells lz lv rz rv) zs₀ vs₀ → (c : Dhzv) → asEntry c ≡ pooled s → zuniqIn c ≡ zuniqShown zuniqIn (sawOf s) → CanKeep pass n (zuniqIn c) (asEntry c) zs vs × TotalFits pass n c zs vs
+  shown-keeps sums room c e z = (rw e (shown-can-keep w (w .walking .wrote) room (sawOf s) t (zuniqIn c) z (pooled s) refl), go pass (w .walking .wrote))
     where
       go : (pass : Pass) → Wrote pass accept zs₀ vs₀ n zs vs cells → TotalFits pass n c zs vs
       go Pass.Count w = tt

@@ -12,9 +12,9 @@ use Rattle.combine.specs.Overlay.{someEntry}
 use Rattle.combine.specs.Rules.{keptOf, kept, copyDensity, productRule}
 use Rattle.combine.specs.Heads.{At, used, takesLeft, takesRight, shows, shownAs, Turned}
 use Rattle.combine.specs.Slices.{Room}
-use Rattle.combine.specs.Densities.{asEntry, sawOf, cellsOf, productCells, notFinite, someNotFinite, CanKeepCells, CellsOutcome}
+use Rattle.combine.specs.Densities.{asEntry, zuniqIn, sawOf, cellsOf, Carries, productCells, notFinite, someNotFinite, CanKeepCells, CellsOutcome}
 use Rattle.combine.specs.declared.Pass.{Pass}
-use Rattle.combine.specs.declared.densities.Dhv.{Dhv}
+use Rattle.combine.specs.declared.densities.Dhzv.{Dhzv}
 use Rattle.combine.specs.declared.densities.LhsRhsBoth.{LhsRhsBoth}
 use Rattle.combine.specs.declared.densities.Answer.{Answer}
 use Rattle.combine.specs.declared.densities.Cells.{Cells}
@@ -23,8 +23,8 @@ use Rattle.combine.proofs.Walking.{Walking, Ready, ready-shown, shown-p
 use Rattle.combine.proofs.Shown.{shown-can-keep}
 
 -- what is read past the end of an array
-abbrev pub blank : Dhv
-blank = record { depth = 0; hash = 0; value = nan }
+abbrev pub blank : Dhzv
+blank = record { depth = 0; hash = 0; zuniq = 0; value = nan }
 
 -- ---- finite values
 -- A float is not finite exactly if it is a NaN, at least infinity, or at most minus infinity.
@@ -59,8 +59,8 @@ pub wrote-no-density : (pass : Pass) (zs : List ℕ) (vs : List Float) → Wrote
 wrote-no-density pass zs vs = record { wrote = wrote-nothing acceptDensities pass zs vs; finite = no-cell-finite }
 
 -- ---- a cell that is shown
-module _ {k : Float} {lz : List ℕ} {lv : List Float} {rz : List ℕ} {rv : List Float} {zs₀ : List ℕ} {vs₀ : List Float} {zs : List ℕ} {vs : List Float} {pass : Pass} {n m : ℕ} {l r : At Dhv} {lp rp : List Dhv}
-    (w : Ready copyDensity (productRule k) asEntry blank lz lv rz rv (WroteFinite pass zs₀ vs₀ n zs vs) l r lp rp m)
+module _ {k : Float} {lz : List ℕ} {lv : List Float} {rz : List ℕ} {rv : List Float} {zs₀ : List ℕ} {vs₀ : List Float} {zs : List ℕ} {vs : List Float} {pass : Pass} {n m : ℕ} {l r : At Dhzv} {lp rp : List Dhzv}
+    (w : Ready copyDensity (productRule k) asEntry blank zuniqIn lz lv rz rv (WroteFinite pass zs₀ vs₀ n zs vs) l r lp rp m)
     (s : LhsRhsBoth) (t : Turned asEntry 29 (l .head) (r .head) (shows (sawOf s))) where
   abbrev cells : List (Entry Float)
   cells = kept (productRule k) (w .walking .done)
@@ -69,14 +69,14 @@ module _ {k : Float} {lz : List ℕ} {lv : List Float} {rz : List ℕ} {rv : Lis
   shownCells = keptOf (productRule k) (shownAs asEntry (sawOf s))
 
   -- What the rule answers can be kept.
-  pub shown-keeps : Room pass (productCells k lz lv rz rv) zs₀ vs₀ → (a : Answer) → cellsOf a ≡ shownCells → CanKeepCells pass n a zs vs
-  shown-keeps room (Answer.Kept c) e = shown-can-keep w (w .walking .wrote .wrote) room (sawOf s) t (asEntry c) (sym e)
-  shown-keeps room Answer.Dropped e = wrote-stands (w .walking .wrote .wrote)
+  pub shown-keeps : Room pass (productCells k lz lv rz rv) zs₀ vs₀ → (a : Answer) → cellsOf a ≡ shownCells → Carries (sawOf s) a → CanKeepCells pass n a zs vs
+  shown-keeps room (Answer.Kept c) e z = shown-can-keep w (w .walking .wrote .wrote) room (sawOf s) t (zuniqIn c) z (asEntry c) (sym e)
+  shown-keeps room Answer.Dropped e z = wrote-stands (w .walking .wrote .wrote)
 
   module _ (zs′ : List ℕ) (vs′ : List Float) (a : Answer) (e : cellsOf a ≡ shownCells) (c : Cells) (o : CellsOutcome pass n (cellsOf a) zs vs c zs′ vs′) where
     -- It is counted or pushed, and the heads that it takes are used up.
     pub shown-kept : {tl tr : Bool} (n′ : ℕ) → c ≡ Cells.Number n′ → length zs′ ≡ length zs → length vs′ ≡ length vs → tl ≡ takesLeft (sawOf s) → tr ≡ takesRight (sawOf s)
-        → Walking copyDensity (productRule k) asEntry blank lz lv rz rv (WroteFinite pass zs₀ vs₀ n′ zs′ vs′) (used tl l) (used tr r) lp rp
+        → Walking copyDensity (productRule k) asEntry blank zuniqIn lz lv rz rv (WroteFinite pass zs₀ vs₀ n′ zs′ vs′) (used tl l) (used tr r) lp rp
     shown-kept n′ q u v f g =
         let b = subst (λ (c : Cells). CellsOutcome pass n (cellsOf a) zs vs c zs′ vs′) q o in
         ready-shown w (sawOf s) t (WroteFinite pass zs₀ vs₀ n′ zs′ vs′) f g (λ d k.

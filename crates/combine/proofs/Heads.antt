@@ -39,8 +39,8 @@ pub shallow-head : {A C : Type 0} (asEntry : C → Entry A) (x : Option C) (a : 
 shallow-head asEntry x a q s = rw q at s
 
 -- What is known of the entry at a place, once it is known what that is.
-pub entry-known : {A C : Type 0} (asEntry : C → Entry A) (u : A) (zs : List ℕ) (vs : List A) (i : ℕ) (x y : Option C) → x ≡ y → EntryAt asEntry u zs vs i x → EntryAt asEntry u zs vs i y
-entry-known asEntry u zs vs i x y q f = rw (← q) f
+pub entry-known : {A C : Type 0} (asEntry : C → Entry A) (zuniqIn : C → ℕ) (u : A) (zs : List ℕ) (vs : List A) (i : ℕ) (x y : Option C) → x ≡ y → EntryAt asEntry zuniqIn u zs vs i x → EntryAt asEntry zuniqIn u zs vs i y
+entry-known asEntry zuniqIn u zs vs i x y q f = rw (← q) f
 
 -- ---- two heads
 module _ {A C : Type 0} (asEntry : C → Entry A) (K : ℕ) (a b : C) where
@@ -87,6 +87,10 @@ child-fits d h i u v w =
     let c = child-valid-iff d h i w .1 v in
     let p : 4 ^ suc d ≤ 4 ^ 29 = pow-le-pow-right {n = 4} (omega arith) {i = suc d} {j = 29} (omega arith) in
     omega arith
+
+-- It is a cell too.
+pub child-in-sky : (d h i : ℕ) → d < 29 → h < nHash d → i < 4 → (d + 1 ≤ 29) × (4 * h + i < nHash (d + 1))
+child-in-sky d h i u v w = (omega arith, rw add-one (child-valid-iff d h i w .1 v))
 
 pub child-is : {A : Type 0} (d h i : ℕ) (v x : A) → v ≡ x → entry (d + 1) (4 * h + i) v ≡ child d h i x
 child-is d h i v x q = rw (q, add-one)

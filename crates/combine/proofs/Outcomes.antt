@@ -6,6 +6,7 @@ use native.Mathlib.Omega.{arith}
 use lib.Ieee.{Float}
 use lib.ListN.{length, length-append}
 use Rattle.zuniq.specs.Cells.{nHash}
+use Rattle.zuniq.specs.Codec.{IsZuniqOf}
 use Rattle.build.specs.Map.{Entry, Merger}
 use Rattle.build.specs.Stack.{run}
 use Rattle.build.specs.Buffers.{held, readOnto}
@@ -67,14 +68,14 @@ module _ {A : Type 0} {accept : ℕ → Float → Merger A} {zs₀ : List ℕ} {
   wrote-next {pass} m {r} {zs′} {vs′} w o p q = record { outcome = outcome-next accept 0 cells m zs₀ vs₀ n zs vs r zs′ vs′ pass (w .outcome) o; zuniqs = p ∙ w .zuniqs; values = q ∙ w .values }
 
   -- One cell more, of the cells that there is room for, can be kept.
-  pub can-keep : {pass : Pass} (e : Entry A) (o all : List (Entry A)) → Wrote pass accept zs₀ vs₀ n zs vs cells → (cells ++ (e ∷ [])) ++ o ≡ all → length all ≤ nHash 29 → Room pass all zs₀ vs₀
-      → (e .depth ≤ 29) × (e .hash < nHash (e .depth)) → CanKeep pass n e zs vs
+  pub can-keep : {pass : Pass} (z : ℕ) (e : Entry A) (o all : List (Entry A)) → Wrote pass accept zs₀ vs₀ n zs vs cells → (cells ++ (e ∷ [])) ++ o ≡ all → length all ≤ nHash 29 → Room pass all zs₀ vs₀
+      → IsZuniqOf 29 z (e .depth) (e .hash) → CanKeep pass n z e zs vs
   unfolding nHash
-  can-keep {pass = Pass.Count} e o all w q u room sky = omega (arith, w .outcome .0, part-length cells e o all q)
-  can-keep {pass = Pass.Merge M T} e o all w q u room sky =
+  can-keep {pass = Pass.Count} z e o all w q u room good = omega (arith, w .outcome .0, part-length cells e o all q)
+  can-keep {pass = Pass.Merge M T} z e o all w q u room good =
       let a = w .outcome in
       let p = part-length cells e o all q in
-      (a .stands, omega (arith, a .least, w .zuniqs, room .0), omega (arith, a .least, w .values, room .1), sky .0, sky .1)
+      (a .stands, omega (arith, a .least, w .zuniqs, room .0), omega (arith, a .least, w .values, room .1), good)
 
   -- A merger that gives sums keeps the total.
   pub wrote-total : (figure : A → ℕ) {M : ℕ} {T : Float} → Sums (accept M T) figure → Wrote (Pass.Merge M T) accept zs₀ vs₀ n zs vs cells → total figure (held 29 n zs vs) ≡ total figure cells

@@ -18,14 +18,14 @@ use Rattle.combine.proofs.Turns.{rises-open, overlay-open-left, overlay
 use Rattle.combine.proofs.Walk.{overlay-nil, overlay-give-left, overlay-give-right, overlay-give-both}
 use Rattle.combine.proofs.Sides.{pending, pushed, toCome, Side, Filled, side-taken, open-side, open-to-come}
 
-module _ {A C : Type 0} (split : Split A) (asEntry : C → Entry A) (blank : C) (K : ℕ) where
+module _ {A C : Type 0} (split : Split A) (asEntry : C → Entry A) (blank : C) (zuniqIn : C → ℕ) (K : ℕ) where
   -- A side without a head is at its end.
-  nothing-to-come : (rest : ℕ → List (Entry A)) (p : List C) (m i : ℕ) → Side asEntry blank K rest (sideAt none m i false) p → toCome asEntry blank K rest (sideAt none m i false) p ≡ []
+  nothing-to-come : (rest : ℕ → List (Entry A)) (p : List C) (m i : ℕ) → Side asEntry blank zuniqIn K rest (sideAt none m i false) p → toCome asEntry blank rest (sideAt none m i false) p ≡ []
   unfolding pending
-  nothing-to-come rest p m i s = let h = s .ended refl in rw (h .0) (h .1)
+  nothing-to-come rest p m i s = let h = s .known refl in rw (h .0) (h .1)
 
   -- What ends before the head of a side starts ends before all of it.
-  ahead-before : (rest : ℕ → List (Entry A)) (a : C) (y : Option C) (p : List C) (m i : ℕ) → Side asEntry blank K rest (sideAt y m i false) p → Ahead asEntry K a y → Before K (asEntry a) (toCome asEntry blank K rest (sideAt y m i false) p)
+  ahead-before : (rest : ℕ → List (Entry A)) (a : C) (y : Option C) (p : List C) (m i : ℕ) → Side asEntry blank zuniqIn K rest (sideAt y m i false) p → Ahead asEntry K a y → Before K (asEntry a) (toCome asEntry blank rest (sideAt y m i false) p)
   ahead-before rest a none p m i s t = rw (nothing-to-come rest p m i s) tt
   ahead-before rest a (some b) p m i s t = t
 
@@ -34,21 +34,21 @@ module _ {A C : Type 0} (split : Split A) (asEntry : C → Entry A) (blank : C) 
 
   module _ (el er : ℕ → List (Entry A)) where
     abbrev L : At C → List C → List (Entry A)
-    L s p = toCome asEntry blank K el s p
+    L s p = toCome asEntry blank el s p
 
     abbrev R : At C → List C → List (Entry A)
-    R s p = toCome asEntry blank K er s p
+    R s p = toCome asEntry blank er s p
 
     -- `done` has been shown, of the overlay
     pub record State (done : List (Entry (Seen A))) (l r : At C) (lp rp : List C) : Type 0 where
-      pub on-left : Side asEntry blank K el l lp
-      pub on-right : Side asEntry blank K er r rp
+      pub on-left : Side asEntry blank zuniqIn K el l lp
+      pub on-right : Side asEntry blank zuniqIn K er r rp
       pub rises-left : Rises K 0 (nHash K) (L l lp)
       pub rises-right : Rises K 0 (nHash K) (R r rp)
       pub whole : done ++ overlay split K (L l lp) (R r rp) ≡ overlay split K (el 0) (er 0)
 
     -- Fetching heads changes nothing.
-    pub state-filled : (done : List (Entry (Seen A))) (l r l′ r′ : At C) (lp rp : List C) → State done l r lp rp → Filled asEntry blank K el l l′ lp → Filled asEntry blank K er r r′ rp
+    pub state-filled : (done : List (Entry (Seen A))) (l r l′ r′ : At C) (lp rp : List C) → State done l r lp rp → Filled asEntry blank zuniqIn K el l l′ lp → Filled asEntry blank zuniqIn K er r r′ rp
         → State done (used false l′) (used false r′) lp rp
     state-filled done l r l′ r′ lp rp s f g = record {
       on-left = f .side;
@@ -69,7 +69,7 @@ module _ {A C : Type 0} (split : Split A) (asEntry : C → Entry A) (blank : C) 
 
       show-left : (a : C) (y : Option C) → Ready (some a) y → Ahead asEntry K a y → State (done ++ (shownAs asEntry (sawLeft a) ∷ [])) (sideAt (some a) m i true) (sideAt y n j false) lp rp
       show-left a y s t = record {
-        on-left = side-taken asEntry blank K el (sideAt (some a) m i false) lp true (s .on-left);
+        on-left = side-taken asEntry blank zuniqIn K el (sideAt (some a) m i false) lp true (s .on-left);
         on-right = s .on-right;
         rises-left = rises-tail (asEntry a) (L (sideAt (some a) m i true) lp) (s .rises-left);
         rises-right = s .rises-right;
@@ -79,7 +79,7 @@ module _ {A C : Type 0} (split : Split A) (asEntry : C → Entry A) (blank : C) 
       show-right : (x : Option C) (b : C) → Ready x (some b) → Ahead asEntry K b x → State (done ++ (shownAs asEntry (sawRight b) ∷ [])) (sideAt x m i false) (sideAt (some b) n j true) lp rp
       show-right x b s t = record {
         on-left = s .on-left;
-        on-right = side-taken asEntry blank K er (sideAt (some b) n j false) rp true (s .on-right);
+        on-right = side-taken asEntry blank zuniqIn K er (sideAt (some b) n j false) rp true (s .on-right);
         rises-left = s .rises-left;
         rises-right = rises-tail (asEntry b) (R (sideAt (some b) n j true) rp) (s .rises-right);
         whole = next-whole _ _ (rw (overlay-give-right split K (asEntry b) (R (sideAt (some b) n j true) rp) (L (sideAt x m i false) lp) (s .rises-right) (s .rises-left) (ahead-before el b x lp m i (s .on-left) t)) at (s .whole));
@@ -95,8 +95,8 @@ module _ {A C : Type 0} (split : Split A) (asEntry : C → Entry A) (blank : C) 
           = ap (λ (e : Entry A). overlay split K (asEntry a ∷ l) (e ∷ r)) z
           ∙ overlay-give-both split K (asEntry a .depth) (asEntry a .hash) (asEntry a .value) (asEntry b .value) l r (s .rises-left) (subst (λ (e : Entry A). Rises K 0 (nHash K) (e ∷ r)) z (s .rises-right)) in
           record {
-            on-left = side-taken asEntry blank K el (sideAt (some a) m i false) lp true (s .on-left);
-            on-right = side-taken asEntry blank K er (sideAt (some b) n j false) rp true (s .on-right);
+            on-left = side-taken asEntry blank zuniqIn K el (sideAt (some a) m i false) lp true (s .on-left);
+            on-right = side-taken asEntry blank zuniqIn K er (sideAt (some b) n j false) rp true (s .on-right);
             rises-left = rises-tail (asEntry a) l (s .rises-left);
             rises-right = rises-tail (asEntry b) r (s .rises-right);
             whole = next-whole _ _ (rw q at (s .whole));
@@ -118,13 +118,13 @@ module _ {A C : Type 0} (split : Split A) (asEntry : C → Entry A) (blank : C) 
 
       -- ---- splitting a head
       module _ (a b : C) (s : Ready (some a) (some b)) (c3 c2 c1 c0 : C) where
-        pub state-open-left : Inner (asEntry b) (asEntry a) → (u : asEntry a .depth < K) → ChildOf asEntry split a 3 c3 → ChildOf asEntry split a 2 c2 → ChildOf asEntry split a 1 c1 → ChildOf asEntry split a 0 c0
+        pub state-open-left : Inner (asEntry b) (asEntry a) → (u : asEntry a .depth < K) → ChildOf asEntry zuniqIn split a 3 c3 → ChildOf asEntry zuniqIn split a 2 c2 → ChildOf asEntry zuniqIn split a 1 c1 → ChildOf asEntry zuniqIn split a 0 c0
             → State done (sideAt (some c0) (m + 3) i false) (sideAt (some b) n j false) (pushed asEntry blank lp m c3 c2 c1) rp
         state-open-left t u k3 k2 k1 k0 =
             let l = L (sideAt (some a) m i true) lp in
-            let z = open-to-come asEntry blank K el split a lp m i (s .on-left) u c3 c2 c1 c0 k3 k2 k1 k0 in
+            let z = open-to-come asEntry blank zuniqIn K el split a lp m i (s .on-left) u c3 c2 c1 c0 k3 k2 k1 k0 in
             record {
-              on-left = open-side asEntry blank K el split a lp m i (s .on-left) u c3 c2 c1 c0 k3 k2 k1 k0;
+              on-left = open-side asEntry blank zuniqIn K el split a lp m i (s .on-left) u c3 c2 c1 c0 k3 k2 k1 k0;
               on-right = s .on-right;
               rises-left = subst (Rises K 0 (nHash K)) (sym z) (rises-open split K 0 (nHash K) (asEntry a) l u (s .rises-left));
               rises-right = s .rises-right;
@@ -132,14 +132,14 @@ module _ {A C : Type 0} (split : Split A) (asEntry : C → Entry A) (blank : C) 
                   ∙ overlay-open-left split K (asEntry a) (asEntry b) l (R (sideAt (some b) n j true) rp) (s .rises-left) (s .rises-right) t) ∙ s .whole;
             }
 
-        pub state-open-right : Inner (asEntry a) (asEntry b) → (u : asEntry b .depth < K) → ChildOf asEntry split b 3 c3 → ChildOf asEntry split b 2 c2 → ChildOf asEntry split b 1 c1 → ChildOf asEntry split b 0 c0
+        pub state-open-right : Inner (asEntry a) (asEntry b) → (u : asEntry b .depth < K) → ChildOf asEntry zuniqIn split b 3 c3 → ChildOf asEntry zuniqIn split b 2 c2 → ChildOf asEntry zuniqIn split b 1 c1 → ChildOf asEntry zuniqIn split b 0 c0
             → State done (sideAt (some a) m i false) (sideAt (some c0) (n + 3) j false) lp (pushed asEntry blank rp n c3 c2 c1)
         state-open-right t u k3 k2 k1 k0 =
             let r = R (sideAt (some b) n j true) rp in
-            let z = open-to-come asEntry blank K er split b rp n j (s .on-right) u c3 c2 c1 c0 k3 k2 k1 k0 in
+            let z = open-to-come asEntry blank zuniqIn K er split b rp n j (s .on-right) u c3 c2 c1 c0 k3 k2 k1 k0 in
             record {
               on-left = s .on-left;
-              on-right = open-side asEntry blank K er split b rp n j (s .on-right) u c3 c2 c1 c0 k3 k2 k1 k0;
+              on-right = open-side asEntry blank zuniqIn K er split b rp n j (s .on-right) u c3 c2 c1 c0 k3 k2 k1 k0;
               rises-left = s .rises-left;
               rises-right = subst (Rises K 0 (nHash K)) (sym z) (rises-open split K 0 (nHash K) (asEntry b) r u (s .rises-right));
               whole = ap (λ (o : List (Entry (Seen A))). done ++ o) (ap (λ (r : List (Entry A)). overlay split K (L (sideAt (some a) m i false) lp) r) z

@@ -10,10 +10,10 @@ use Rattle.merger.specs.Merge.{acceptDensities}
 use Rattle.build.specs.Map.{Entry, entry}
 use Rattle.combine.specs.Overlay.{someEntry, overlay}
 use Rattle.combine.specs.Rules.{kept, copyDensity, productRule}
-use Rattle.combine.specs.Heads.{Saw, sawLeft, sawRight, sawBoth, Act, shows, opensLeft, opensRight, ends, At}
+use Rattle.combine.specs.Heads.{Saw, sawLeft, sawRight, sawBoth, Act, shows, opensLeft, opensRight, ends, At, zuniqShown}
 use Rattle.combine.specs.Slices.{entriesOf, Outcome, Standing, CanKeep, Untouched}
 use Rattle.combine.specs.declared.Pass.{Pass}
-use Rattle.combine.specs.declared.densities.Dhv.{Dhv}
+use Rattle.combine.specs.declared.densities.Dhzv.{Dhzv}
 use Rattle.combine.specs.declared.densities.Head.{Head}
 use Rattle.combine.specs.declared.densities.Side.{Side}
 use Rattle.combine.specs.declared.densities.LhsRhsBoth.{LhsRhsBoth}
@@ -22,22 +22,25 @@ use Rattle.combine.specs.declared.densities.Answer.{Answer}
 use Rattle.combine.specs.declared.densities.Cells.{Cells}
 
 -- ---- cells, heads and sides
-abbrev pub asEntry : Dhv → Entry Float
+abbrev pub asEntry : Dhzv → Entry Float
 asEntry c = entry (c .depth) (c .hash) (c .value)
 
-abbrev pub headOf : Head → Option Dhv
+abbrev pub zuniqIn : Dhzv → ℕ
+zuniqIn c = c .zuniq
+
+abbrev pub headOf : Head → Option Dhzv
 headOf (Head.Cell a) = some a
 headOf Head.End = none
 
-abbrev pub sideOf : Side → At Dhv
+abbrev pub sideOf : Side → At Dhzv
 sideOf s = record { head = headOf (s .head); pending = s .pending; place = s .place; taken = s .taken }
 
-abbrev pub sawOf : LhsRhsBoth → Saw Dhv
+abbrev pub sawOf : LhsRhsBoth → Saw Dhzv
 sawOf (LhsRhsBoth.Left a) = sawLeft a
 sawOf (LhsRhsBoth.Right b) = sawRight b
 sawOf (LhsRhsBoth.Both a b) = sawBoth a b
 
-abbrev pub actOf : Turn → Act Dhv
+abbrev pub actOf : Turn → Act Dhzv
 actOf (Turn.Show s) = shows (sawOf s)
 actOf (Turn.OpenLeft a) = opensLeft a
 actOf (Turn.OpenRight b) = opensRight b
@@ -48,6 +51,11 @@ actOf Turn.Stop = ends
 abbrev pub cellsOf : Answer → List (Entry Float)
 cellsOf (Answer.Kept c) = asEntry c ∷ []
 cellsOf Answer.Dropped = []
+
+-- it has the zuniq that was shown
+abbrev pub Carries : Saw Dhzv → Answer → Type 0
+Carries s (Answer.Kept c) = zuniqIn c ≡ zuniqShown zuniqIn s
+Carries s Answer.Dropped = Unit {0}
 
 -- the cells that the product keeps of the overlay, before merging
 abbrev pub productCells : Float → List ℕ → List Float → List ℕ → List Float → List (Entry Float)
@@ -62,7 +70,7 @@ someNotFinite l = someEntry (λ e. notFinite (e .value)) l
 
 -- what it takes to keep what the rule answers
 abbrev pub CanKeepCells : Pass → ℕ → Answer → List ℕ → List Float → Type 0
-CanKeepCells pass n (Answer.Kept c) zs vs = CanKeep pass n (asEntry c) zs vs
+CanKeepCells pass n (Answer.Kept c) zs vs = CanKeep pass n (zuniqIn c) (asEntry c) zs vs
 CanKeepCells pass n Answer.Dropped zs vs = Standing pass n zs vs
 
 -- What is answered of the cells l behind n others: their number, or that one of them is not finite.

@@ -5,7 +5,6 @@ use mathlib.Core.List.{List}
 use mathlib.Core.Option.{Option, none, some}
 use Prim.Native.Nat.{ℕ, _+_, _-_, _≤_, _<_}
 use lib.ListN.{length, getD}
-use Rattle.zuniq.specs.Cells.{nHash}
 use Rattle.zuniq.specs.Codec.{IsZuniqOf}
 use Rattle.build.specs.Map.{Entry, entry}
 use Rattle.build.specs.Stack.{child}
@@ -67,10 +66,6 @@ module _ {A C : Type 0} (asEntry : C → Entry A) where
   shownAs (sawRight b) = entry (asEntry b .depth) (asEntry b .hash) (right (asEntry b .value))
   shownAs (sawBoth a b) = entry (asEntry a .depth) (asEntry a .hash) (both (asEntry a .value) (asEntry b .value))
 
-  -- a cell of the sky
-  abbrev pub InSky : C → Type 0
-  InSky a = (asEntry a .depth ≤ 29) × (asEntry a .hash < nHash (asEntry a .depth))
-
   -- a head, if there is one, is not too deep
   abbrev pub Shallow : Option C → Type 0
   Shallow none = Unit {0}
@@ -90,15 +85,27 @@ module _ {A C : Type 0} (asEntry : C → Entry A) where
   Turned K x y (opensRight b) = (a : C) × (x ≡ some a) × (y ≡ some b) × Inner (asEntry a) (asEntry b)
   Turned K x y ends = (x ≡ none) × (y ≡ none)
 
+-- the zuniq of the overlay cell that is shown; zuniqIn c is the one that c holds
+abbrev pub zuniqShown : {C : Type 0} → (C → ℕ) → Saw C → ℕ
+zuniqShown zuniqIn (sawLeft a) = zuniqIn a
+zuniqShown zuniqIn (sawRight b) = zuniqIn b
+zuniqShown zuniqIn (sawBoth a b) = zuniqIn a
+
+-- "depth, hash, zuniq and .. used for the .. left, right and pending cells"
+module _ {A C : Type 0} (asEntry : C → Entry A) (zuniqIn : C → ℕ) where
+  -- the cell holds the zuniq of its depth and hash
+  abbrev pub Good : C → Type 0
+  Good a = IsZuniqOf 29 (zuniqIn a) (asEntry a .depth) (asEntry a .hash)
+
   -- c is child i of a
   abbrev pub ChildOf : Split A → C → ℕ → C → Type 0
-  ChildOf split a i c = asEntry c ≡ child (asEntry a .depth) (asEntry a .hash) i (split (asEntry a .depth) (asEntry a .hash) (asEntry a .value) i)
+  ChildOf split a i c = Good c × (asEntry c ≡ child (asEntry a .depth) (asEntry a .hash) i (split (asEntry a .depth) (asEntry a .hash) (asEntry a .value) i))
 
   -- x is the entry at place i of the map in zs and vs, if there is one; u is what is read past the end of vs
   module _ (u : A) (zs : List ℕ) (vs : List A) where
     abbrev pub EntryAt : ℕ → Option C → Type 0
     EntryAt i none = length zs ≤ i
-    EntryAt i (some a) = (i < length zs) × IsZuniqOf 29 (getD zs i 0) (asEntry a .depth) (asEntry a .hash) × (asEntry a .value ≡ getD vs i u)
+    EntryAt i (some a) = (i < length zs) × (zuniqIn a ≡ getD zs i 0) × Good a × (asEntry a .value ≡ getD vs i u)
 
     -- The side r is s with a head: the one that s has, or the last pending cell, or the next entry.
     pub data Advanced (top : C) (s r : At C) : Type 0 where

@@ -41,10 +41,10 @@ module _ {A : Type 0} where
   Standing Pass.Count n zs vs = Unit {0}
   Standing (Pass.Merge M T) n zs vs = Stands 29 n zs vs
 
-  -- what it takes to count a cell behind n others, or to merge it into n entries
-  abbrev pub CanKeep : Pass → ℕ → Entry A → List ℕ → List A → Type 0
-  CanKeep Pass.Count n e zs vs = n + 1 < 2 ^ 64
-  CanKeep (Pass.Merge M T) n e zs vs = Stands 29 n zs vs × (n < length zs) × (n < length vs) × (e .depth ≤ 29) × (e .hash < nHash (e .depth))
+  -- what it takes to count a cell behind n others, or to merge it, with its zuniq z, into n entries
+  abbrev pub CanKeep : Pass → ℕ → ℕ → Entry A → List ℕ → List A → Type 0
+  CanKeep Pass.Count n z e zs vs = n + 1 < 2 ^ 64
+  CanKeep (Pass.Merge M T) n z e zs vs = Stands 29 n zs vs × (n < length zs) × (n < length vs) × IsZuniqOf 29 z (e .depth) (e .hash)
 
   -- counting leaves the buffers as they are
   abbrev pub Untouched : Pass → List ℕ → List A → List ℕ → List A → Type 0

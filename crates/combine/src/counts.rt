@@ -11,38 +11,40 @@ ghost use Prim.Native.Nat.{_+_, _-_, _≤_, _<_};
 ghost use Rattle.merger.specs.Merge.{acceptCounts};
 ghost use Rattle.build.specs.Counts.{totalOf};
 ghost use Rattle.combine.specs.Rules.{splitCount};
-ghost use Rattle.combine.specs.Heads.{sideStart, opened, takesLeft, takesRight, InSky, Shallow, Turned, ChildOf, EntryAt, Advanced};
+ghost use Rattle.combine.specs.Heads.{sideStart, opened, takesLeft, takesRight, Shallow, Turned, zuniqShown, Good, ChildOf, EntryAt, Advanced};
 ghost use Rattle.combine.specs.Slices.{entriesOf, Holds, Outcome, Room, CanKeep};
-ghost use Rattle.combine.specs.Counts.{asEntry, headOf, sideOf, sawOf, actOf, pooled, poolCells, TotalFits};
+ghost use Rattle.combine.specs.Counts.{asEntry, zuniqIn, headOf, sideOf, sawOf, actOf, pooled, poolCells, TotalFits};
 use crate::Pass;
 use build::counts::push;
 use zuniq::Decoded;
 use zuniq::Zuniq64;
 
-// A cell with its count: depth, hash and value.
-pub struct Dhv {
+// A cell with its zuniq and its count.
+pub struct Dhzv {
     pub depth: u8,
     pub hash: u64,
+    pub zuniq: u64,
     pub value: u32,
 }
 
 // What an array of pending cells starts with.
-const BLANK: Dhv = Dhv {
+const BLANK: Dhzv = Dhzv {
     depth: 0,
     hash: 0,
+    zuniq: 0,
     value: 0,
 };
 
 // An overlay cell as the rule sees it.
 pub enum LhsRhsBoth {
-    Left(Dhv),
-    Right(Dhv),
-    Both(Dhv, Dhv),
+    Left(Dhzv),
+    Right(Dhzv),
+    Both(Dhzv, Dhzv),
 }
 
 // The next cell of a side.
 pub enum Head {
-    Cell(Dhv),
+    Cell(Dhzv),
     End,
 }
 
@@ -60,8 +62,8 @@ pub struct Side {
 // What a turn of the walk does.
 pub enum Turn {
     Show(LhsRhsBoth),
-    OpenLeft(Dhv),
-    OpenRight(Dhv),
+    OpenLeft(Dhzv),
+    OpenRight(Dhzv),
     Stop,
 }
 
@@ -116,8 +118,8 @@ pub fn pool_cells(
 }
 
 // Counts a cell behind n others, or merges it into n entries. Answers the new number.
-fn keep(pass: Pass, cell: Dhv, zuniqs: &mut [u64], counts: &mut [u32], n: usize) -> usize
-    requires { ⌜ CanKeep pass n (asEntry cell) (now zuniqs) (now counts) × TotalFits pass n cell (now zuniqs) (now counts) ⌝ }
+fn keep(pass: Pass, cell: Dhzv, zuniqs: &mut [u64], counts: &mut [u32], n: usize) -> usize
+    requires { ⌜ CanKeep pass n (zuniqIn cell) (asEntry cell) (now zuniqs) (now counts) × TotalFits pass n cell (now zuniqs) (now counts) ⌝ }
     ensures { λ r. ⌜ Outcome pass acceptCounts n (asEntry cell ∷ []) (now (zuniqs .entry)) (now (counts .entry)) r (now (zuniqs .exit)) (now (counts .exit)) ⌝ }
 {
     match pass {
@@ -131,6 +133,7 @@ fn keep(pass: Pass, cell: Dhv, zuniqs: &mut [u64], counts: &mut [u32], n: usize)
             n,
             cell.depth,
             cell.hash,
+            cell.zuniq,
             cell.value,
             depth_threshold,
             chi2_threshold,
@@ -139,16 +142,17 @@ fn keep(pass: Pass, cell: Dhv, zuniqs: &mut [u64], counts: &mut [u32], n: usize)
 }
 
 // The rule of the pool: alone kept, both summed.
-fn pool(seen: LhsRhsBoth) -> Dhv
+fn pool(seen: LhsRhsBoth) -> Dhzv
     requires { ⌜ pooled seen .value ≤ 4294967295 ⌝ }
-    ensures { λ r. ⌜ asEntry r ≡ pooled seen ⌝ }
+    ensures { λ r. ⌜ (asEntry r ≡ pooled seen) × (zuniqIn r ≡ zuniqShown zuniqIn (sawOf seen)) ⌝ }
 {
     match seen {
         LhsRhsBoth::Left(a) => a,
         LhsRhsBoth::Right(b) => b,
-        LhsRhsBoth::Both(a, b) => Dhv {
+        LhsRhsBoth::Both(a, b) => Dhzv {
             depth: a.depth,
             hash: a.hash,
+            zuniq: a.zuniq,
             value: a.value + b.value,
         },
     }
@@ -177,9 +181,9 @@ fn last_pending(side: Side) -> usize
 }
 
 // The side with a head: the one that it has, or the last pending cell, or the next entry of its map.
-fn next(side: Side, top: Dhv, zuniqs: &[u64], counts: &[u32]) -> Side
+fn next(side: Side, top: Dhzv, zuniqs: &[u64], counts: &[u32]) -> Side
     requires { ⌜ Holds (now zuniqs) (now counts) ⌝ }
-    ensures { λ r. ⌜ Advanced asEntry 0 (now (zuniqs .entry)) (now (counts .entry)) top (sideOf side) (sideOf r) ⌝ }
+    ensures { λ r. ⌜ Advanced asEntry zuniqIn 0 (now (zuniqs .entry)) (now (counts .entry)) top (sideOf side) (sideOf r) ⌝ }
 {
     if !side.taken {
         return side;
@@ -212,17 +216,19 @@ fn next(side: Side, top: Dhv, zuniqs: &[u64], counts: &[u32]) -> Side
 // The entry at a place, if there is one.
 fn head_at(zuniqs: &[u64], counts: &[u32], i: usize) -> Head
     requires { ⌜ Holds (now zuniqs) (now counts) ⌝ }
-    ensures { λ r. ⌜ EntryAt asEntry 0 (now (zuniqs .entry)) (now (counts .entry)) i (headOf r) ⌝ }
+    ensures { λ r. ⌜ EntryAt asEntry zuniqIn 0 (now (zuniqs .entry)) (now (counts .entry)) i (headOf r) ⌝ }
 {
     if i >= zuniqs.len() {
         return Head::End;
     }
-    let Decoded::Cell(cell) = Zuniq64::from_zuniq(zuniqs[i]) else {
+    let zuniq = zuniqs[i];
+    let Decoded::Cell(cell) = Zuniq64::from_zuniq(zuniq) else {
         return Head::End;
     };
-    Head::Cell(Dhv {
+    Head::Cell(Dhzv {
         depth: cell.depth,
         hash: cell.hash,
+        zuniq,
         value: counts[i],
     })
 }
@@ -247,7 +253,7 @@ fn turn_of(left: Side, right: Side) -> Turn
 }
 
 // The deeper one's ancestor at the other's depth is before that other, after it, or the same.
-fn meet(a: Dhv, b: Dhv) -> Turn
+fn meet(a: Dhzv, b: Dhzv) -> Turn
     requires { ⌜ (a .depth ≤ 29) × (b .depth ≤ 29) ⌝ }
     ensures { λ t. ⌜ Turned asEntry 29 (some a) (some b) (actOf t) ⌝ }
 {
@@ -295,7 +301,7 @@ fn takes_right(seen: LhsRhsBoth) -> bool
 }
 
 // The side whose head has been split: its first child is the head, and the other three are pending.
-fn open(side: Side, first: Dhv) -> Side
+fn open(side: Side, first: Dhzv) -> Side
     requires { ⌜ side .pending ≤ 84 ⌝ }
     ensures { λ r. ⌜ sideOf r ≡ opened first (sideOf side) ⌝ }
 {
@@ -308,13 +314,16 @@ fn open(side: Side, first: Dhv) -> Side
 }
 
 // Child i of a cell.
-fn child(parent: Dhv, i: u32) -> Dhv
-    requires { ⌜ InSky asEntry parent × (parent .depth < 29) × (i < 4) ⌝ }
-    ensures { λ r. ⌜ ChildOf asEntry splitCount parent i r ⌝ }
+fn child(parent: Dhzv, i: u32) -> Dhzv
+    requires { ⌜ Good asEntry zuniqIn parent × (parent .depth < 29) × (i < 4) ⌝ }
+    ensures { λ r. ⌜ ChildOf asEntry zuniqIn splitCount parent i r ⌝ }
 {
-    Dhv {
-        depth: parent.depth + 1,
-        hash: 4 * parent.hash + i as u64,
+    let depth = parent.depth + 1;
+    let hash = 4 * parent.hash + i as u64;
+    Dhzv {
+        depth,
+        hash,
+        zuniq: Zuniq64::to_zuniq_unchecked(depth, hash),
         value: part_of(parent.value, i),
     }
 }

@@ -9,39 +9,41 @@ ghost use mathlib.Core.Option.{some};
 ghost use Prim.Native.Nat.{_-_, _≤_, _<_};
 ghost use lib.Ieee.{nan};
 ghost use Rattle.combine.specs.Rules.{keptOf, copyDensity, productRule};
-ghost use Rattle.combine.specs.Heads.{sideStart, opened, takesLeft, takesRight, InSky, Shallow, shownAs, Turned, ChildOf, EntryAt, Advanced};
+ghost use Rattle.combine.specs.Heads.{sideStart, opened, takesLeft, takesRight, Shallow, shownAs, Turned, Good, ChildOf, EntryAt, Advanced};
 ghost use Rattle.combine.specs.Slices.{Holds, Room};
-ghost use Rattle.combine.specs.Densities.{asEntry, headOf, sideOf, sawOf, actOf, cellsOf, productCells, notFinite, CanKeepCells, CellsOutcome};
+ghost use Rattle.combine.specs.Densities.{asEntry, zuniqIn, headOf, sideOf, sawOf, actOf, cellsOf, Carries, productCells, notFinite, CanKeepCells, CellsOutcome};
 use crate::Pass;
 use build::densities::push;
 use merger::is_nan;
 use zuniq::Decoded;
 use zuniq::Zuniq64;
 
-// A cell with its density: depth, hash and value.
-pub struct Dhv {
+// A cell with its zuniq and its density.
+pub struct Dhzv {
     pub depth: u8,
     pub hash: u64,
+    pub zuniq: u64,
     pub value: f64,
 }
 
 // What an array of pending cells starts with.
-const BLANK: Dhv = Dhv {
+const BLANK: Dhzv = Dhzv {
     depth: 0,
     hash: 0,
+    zuniq: 0,
     value: 0.0,
 };
 
 // An overlay cell as the rule sees it.
 pub enum LhsRhsBoth {
-    Left(Dhv),
-    Right(Dhv),
-    Both(Dhv, Dhv),
+    Left(Dhzv),
+    Right(Dhzv),
+    Both(Dhzv, Dhzv),
 }
 
 // The next cell of a side.
 pub enum Head {
-    Cell(Dhv),
+    Cell(Dhzv),
     End,
 }
 
@@ -59,14 +61,14 @@ pub struct Side {
 // What a turn of the walk does.
 pub enum Turn {
     Show(LhsRhsBoth),
-    OpenLeft(Dhv),
-    OpenRight(Dhv),
+    OpenLeft(Dhzv),
+    OpenRight(Dhzv),
     Stop,
 }
 
 // What the rule answers of an overlay cell.
 pub enum Answer {
-    Kept(Dhv),
+    Kept(Dhzv),
     Dropped,
 }
 
@@ -155,6 +157,7 @@ fn keep(pass: Pass, answer: Answer, zuniqs: &mut [u64], densities: &mut [f64], n
             n,
             cell.depth,
             cell.hash,
+            cell.zuniq,
             cell.value,
             depth_threshold,
             chi2_threshold,
@@ -164,14 +167,15 @@ fn keep(pass: Pass, answer: Answer, zuniqs: &mut [u64], densities: &mut [f64], n
 
 // The rule of the product: alone dropped, both multiplied.
 fn product(seen: LhsRhsBoth, k: f64) -> Answer
-    ensures { λ r. ⌜ cellsOf r ≡ keptOf (productRule k) (shownAs asEntry (sawOf seen)) ⌝ }
+    ensures { λ r. ⌜ (cellsOf r ≡ keptOf (productRule k) (shownAs asEntry (sawOf seen))) × Carries (sawOf seen) r ⌝ }
 {
     match seen {
         LhsRhsBoth::Left(_) => Answer::Dropped,
         LhsRhsBoth::Right(_) => Answer::Dropped,
-        LhsRhsBoth::Both(a, b) => Answer::Kept(Dhv {
+        LhsRhsBoth::Both(a, b) => Answer::Kept(Dhzv {
             depth: a.depth,
             hash: a.hash,
+            zuniq: a.zuniq,
             value: k * a.value * b.value,
         }),
     }
@@ -213,9 +217,9 @@ fn last_pending(side: Side) -> usize
 }
 
 // The side with a head: the one that it has, or the last pending cell, or the next entry of its map.
-fn next(side: Side, top: Dhv, zuniqs: &[u64], densities: &[f64]) -> Side
+fn next(side: Side, top: Dhzv, zuniqs: &[u64], densities: &[f64]) -> Side
     requires { ⌜ Holds (now zuniqs) (now densities) ⌝ }
-    ensures { λ r. ⌜ Advanced asEntry nan (now (zuniqs .entry)) (now (densities .entry)) top (sideOf side) (sideOf r) ⌝ }
+    ensures { λ r. ⌜ Advanced asEntry zuniqIn nan (now (zuniqs .entry)) (now (densities .entry)) top (sideOf side) (sideOf r) ⌝ }
 {
     if !side.taken {
         return side;
@@ -248,17 +252,19 @@ fn next(side: Side, top: Dhv, zuniqs: &[u64], densities: &[f64]) -> Side
 // The entry at a place, if there is one.
 fn head_at(zuniqs: &[u64], densities: &[f64], i: usize) -> Head
     requires { ⌜ Holds (now zuniqs) (now densities) ⌝ }
-    ensures { λ r. ⌜ EntryAt asEntry nan (now (zuniqs .entry)) (now (densities .entry)) i (headOf r) ⌝ }
+    ensures { λ r. ⌜ EntryAt asEntry zuniqIn nan (now (zuniqs .entry)) (now (densities .entry)) i (headOf r) ⌝ }
 {
     if i >= zuniqs.len() {
         return Head::End;
     }
-    let Decoded::Cell(cell) = Zuniq64::from_zuniq(zuniqs[i]) else {
+    let zuniq = zuniqs[i];
+    let Decoded::Cell(cell) = Zuniq64::from_zuniq(zuniq) else {
         return Head::End;
     };
-    Head::Cell(Dhv {
+    Head::Cell(Dhzv {
         depth: cell.depth,
         hash: cell.hash,
+        zuniq,
         value: densities[i],
     })
 }
@@ -283,7 +289,7 @@ fn turn_of(left: Side, right: Side) -> Turn
 }
 
 // The deeper one's ancestor at the other's depth is before that other, after it, or the same.
-fn meet(a: Dhv, b: Dhv) -> Turn
+fn meet(a: Dhzv, b: Dhzv) -> Turn
     requires { ⌜ (a .depth ≤ 29) × (b .depth ≤ 29) ⌝ }
     ensures { λ t. ⌜ Turned asEntry 29 (some a) (some b) (actOf t) ⌝ }
 {
@@ -331,7 +337,7 @@ fn takes_right(seen: LhsRhsBoth) -> bool
 }
 
 // The side whose head has been split: its first child is the head, and the other three are pending.
-fn open(side: Side, first: Dhv) -> Side
+fn open(side: Side, first: Dhzv) -> Side
     requires { ⌜ side .pending ≤ 84 ⌝ }
     ensures { λ r. ⌜ sideOf r ≡ opened first (sideOf side) ⌝ }
 {
@@ -344,13 +350,16 @@ fn open(side: Side, first: Dhv) -> Side
 }
 
 // Child i of a cell: it copies its parent.
-fn child(parent: Dhv, i: u32) -> Dhv
-    requires { ⌜ InSky asEntry parent × (parent .depth < 29) × (i < 4) ⌝ }
-    ensures { λ r. ⌜ ChildOf asEntry copyDensity parent i r ⌝ }
+fn child(parent: Dhzv, i: u32) -> Dhzv
+    requires { ⌜ Good asEntry zuniqIn parent × (parent .depth < 29) × (i < 4) ⌝ }
+    ensures { λ r. ⌜ ChildOf asEntry zuniqIn copyDensity parent i r ⌝ }
 {
-    Dhv {
-        depth: parent.depth + 1,
-        hash: 4 * parent.hash + i as u64,
+    let depth = parent.depth + 1;
+    let hash = 4 * parent.hash + i as u64;
+    Dhzv {
+        depth,
+        hash,
+        zuniq: Zuniq64::to_zuniq_unchecked(depth, hash),
         value: parent.value,
     }
 }

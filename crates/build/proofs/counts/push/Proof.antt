@@ -18,9 +18,6 @@ part-put-zuniq-start c = search needs
 part-put-zuniq-end : tie.Need-part-put-zuniq-end
 part-put-zuniq-end c = search needs
 
-to-zuniq-unchecked-requires : tie.Need-to-zuniq-unchecked-requires
-to-zuniq-unchecked-requires c κs = search needs
-
 put-zuniq-requires : tie.Need-put-zuniq-requires
 put-zuniq-requires c κs = search needs
 
@@ -43,7 +40,7 @@ add-collapse : tie.Need-add-collapse
 add-collapse c = search needs
 
 collapse-requires : tie.Need-collapse-requires
-collapse-requires c κs = let s = (stored 29 (c .before .before .before .before .before .before .before .before .before .before .before .before .before .args .n) (c .before .before .before .before .before .before .before .before .before .to-zuniq-unchecked .result) (c .before .before .before .before .before .before .before .before .before .before .before .before .before .args .depth) (c .before .before .before .before .before .before .before .before .before .before .before .before .before .args .hash) (c .before .before .before .before .before .before .before .before .before .before .before .before .before .args .count) (c .before .before .before .before .before .before .before .before .before .before .before .before .before .args .zuniqs .now) (c .before .before .before .before .before .before .before .before .before .before .before .before .before .args .counts .now) _ _ (c .before .before .before .before .before .before .before .before .before .before .before .before .before .pre .0) (c .before .before .before .before .before .before .before .before .before .before .before .before .before .pre .1) (c .before .before .before .before .before .before .before .before .before .before .before .before .before .pre .2) (record { deep = c .before .before .before .before .before .before .before .before .before .before .before .before .before .pre .3; hash = c .before .before .before .before .before .before .before .before .before .before .before .before .before .pre .4; is = c .before .before .before .before .before .before .before .before .before .to-zuniq-unchecked .ensures }) (put-front (c .before .before .before .before .before .before .before .before .before .before .before .before .before .args .n) (c .before .before .before .before .before .before .before .before .before .before .before .before .before .args .zuniqs .now) _ (c .before .before .before .before .before .before .before .before .before .to-zuniq-unchecked .result) (c .before .before .before .before .before .before .before .before .before .before .before .before .before .pre .1) (c .before .before .before .before .before .before .before .before .put-zuniq .ensures)) (put-front (c .before .before .before .before .before .before .before .before .before .before .before .before .before .args .n) (c .before .before .before .before .before .before .before .before .before .before .before .before .before .args .counts .now) _ (c .before .before .before .before .before .before .before .before .before .before .before .before .before .args .count) (c .before .before .before .before .before .before .before .before .before .before .before .before .before .pre .2) (c .before .before .before .before .put-count .ensures))) in (omega arith, s .stands, s .top, rw (s .map-is) (c .before .before .before .before .before .before .before .before .before .before .before .before .before .pre .5))
+collapse-requires c κs = let a = c .before .before .before .before .before .before .before .before .before .before .before .before .args in let p = c .before .before .before .before .before .before .before .before .before .before .before .before .pre in let s = stored 29 (a .n) (a .zuniq) (a .depth) (a .hash) (a .count) (a .zuniqs .now) (a .counts .now) _ _ (p .0) (p .1) (p .2) (p .3) (put-front (a .n) (a .zuniqs .now) _ (a .zuniq) (p .1) (c .before .before .before .before .before .before .before .before .put-zuniq .ensures)) (put-front (a .n) (a .counts .now) _ (a .count) (p .2) (c .before .before .before .before .put-count .ensures)) in (omega arith, s .stands, s .top, rw (s .map-is) (p .4))
 
 same-length : tie.Need-same-length
 same-length c = search needs
@@ -52,7 +49,7 @@ same-length-2 : tie.Need-same-length-2
 same-length-2 c = search needs
 
 returns : tie.Need-returns
-returns c = let s = (stored 29 (c .before .before .before .before .before .before .before .before .before .before .before .before .before .before .before .before .before .before .args .n) (c .before .before .before .before .before .before .before .before .before .before .before .before .before .before .to-zuniq-unchecked .result) (c .before .before .before .before .before .before .before .before .before .before .before .before .before .before .before .before .before .before .args .depth) (c .before .before .before .before .before .before .before .before .before .before .before .before .before .before .before .before .before .before .args .hash) (c .before .before .before .before .before .before .before .before .before .before .before .before .before .before .before .before .before .before .args .count) (c .before .before .before .before .before .before .before .before .before .before .before .before .before .before .before .before .before .before .args .zuniqs .now) (c .before .before .before .before .before .before .before .before .before .before .before .before .before .before .before .before .before .before .args .counts .now) _ _ (c .before .before .before .before .before .before .before .before .before .before .before .before .before .before .before .before .before .before .pre .0) (c .before .before .before .before .before .before .before .before .before .before .before .before .before .before .before .before .before .before .pre .1) (c .before .before .before .before .before .before .before .before .before .before .before .before .before .before .before .before .before .before .pre .2) (record { deep = c .before .before .before .before .before .before .before .before .before .before .before .before .before .before .before .before .before .before .pre .3; hash = c .before .before .before .before .before .before .before .before .before .before .before .before .before .before .before .before .before .before .pre .4; is = c .before .before .before .before .before .before .before .before .before .before .before .before .before .before .to-zuniq-unchecked .ensures }) (put-front (c .before .before .before .before .before .before .before .before .before .before .before .before .before .before .before .before .before .before .args .n) (c .before .before .before .before .before .before .before .before .before .before .before .before .before .before .before .before .before .before .args .zuniqs .now) _ (c .before .before .before .before .before .before .before .before .before .before .before .before .before .before .to-zuniq-unchecked .result) (c .before .before .before .before .before .before .before .before .before .before .before .before .before .before .before .before .before .before .pre .1) (c .before .before .before .before .before .before .before .before .before .before .before .before .before .put-zuniq .ensures)) (put-front (c .before .before .before .before .before .before .before .before .before .before .before .before .before .before .before .before .before .before .args .n) (c .before .before .before .before .before .before .before .before .before .before .before .before .before .before .before .before .before .before .args .counts .now) _ (c .before .before .before .before .before .before .before .before .before .before .before .before .before .before .before .before .before .before .args .count) (c .before .before .before .before .before .before .before .before .before .before .before .before .before .before .before .before .before .before .pre .2) (c .before .before .before .before .before .before .before .before .before .put-count .ensures))) in let e = c .before .before .before .before .collapse .ensures in record { stands = e .stands; least = e .least; is = e .is ∙ rw (s .map-is) refl }
+returns c = let a = c .before .before .before .before .before .before .before .before .before .before .before .before .before .before .before .before .before .args in let p = c .before .before .before .before .before .before .before .before .before .before .before .before .before .before .before .before .before .pre in let s = stored 29 (a .n) (a .zuniq) (a .depth) (a .hash) (a .count) (a .zuniqs .now) (a .counts .now) _ _ (p .0) (p .1) (p .2) (p .3) (put-front (a .n) (a .zuniqs .now) _ (a .zuniq) (p .1) (c .before .before .before .before .before .before .before .before .before .before .before .before .before .put-zuniq .ensures)) (put-front (a .n) (a .counts .now) _ (a .count) (p .2) (c .before .before .before .before .before .before .before .before .before .put-count .ensures)) in let e = c .before .before .before .before .collapse .ensures in record { stands = e .stands; least = e .least; is = e .is ∙ rw (s .map-is) refl }
 
 pub push-spec : {M : Type 1} → statement M
 push-spec =
@@ -62,7 +59,6 @@ push-spec =
     sub-put-zuniq
     part-put-zuniq-start
     part-put-zuniq-end
-    to-zuniq-unchecked-requires
     put-zuniq-requires
     mul-put-count
     sub-put-count

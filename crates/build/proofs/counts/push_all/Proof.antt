@@ -1,6 +1,6 @@
 -- `counts::push_all` meets its contract. The loop's invariant is `Before`, with the total of the counts. Assumes nothing.
 use mathlib.Core.Path.{_≡_, refl, _∙_}
-use Prim.Native.Nat.{ℕ, _+_, _-_, _≤_}
+use Prim.Native.Nat.{ℕ, _+_, _-_, _≤_, _<_}
 use native.Mathlib.Omega.{arith}
 use lib.ListN.{length, getD, drop}
 use borrow.Author.Needs.{needs}
@@ -27,20 +27,23 @@ abbrev μ-loop : tie.MeasureT-loop
 loop-holds : tie.Need-loop-holds Inv-loop μ-loop
 loop-holds c = (before-first (acceptCounts (c .before .before .before .before .args .depth-threshold) (c .before .before .before .before .args .chi2-threshold)) 29 (c .before .before .before .before .args .depth) (c .before .before .before .before .args .held) (c .before .before .before .before .args .hashes .now) (c .before .before .before .before .args .batch .now) (c .before .before .before .before .args .zuniqs .now) (c .before .before .before .before .args .counts .now) (c .before .before .before .before .pre .0 .0), refl, refl, c .before .before .before .before .pre .1 .1)
 
+mul-hash : tie.Need-mul-hash Inv-loop μ-loop
+mul-hash c = search needs
+
+shared-slice-read-hash : tie.Need-shared-slice-read-hash Inv-loop μ-loop
+shared-slice-read-hash c = search needs
+
+to-zuniq-unchecked-requires : tie.Need-to-zuniq-unchecked-requires Inv-loop μ-loop
+to-zuniq-unchecked-requires c κs = let o = c .before .before .before .before .loop in let t = c .before .before .before .loop-test .taken in let a = c .before .before .before .before .before .before .before .before .before .args in let p = c .before .before .before .before .before .before .before .before .before .pre in (p .0 .1, p .1 .0 (o .i) t)
+
 mul-push : tie.Need-mul-push Inv-loop μ-loop
-mul-push c = search needs
+mul-push c = let t = c .before .before .before .before .loop-test .taken in let s = c .before .before .before .before .before .before .before .before .before .before in omega (arith, t, s .pre .0 .2, s .good)
 
 shared-slice-read-push : tie.Need-shared-slice-read-push Inv-loop μ-loop
-shared-slice-read-push c = search needs
-
-mul-push-2 : tie.Need-mul-push-2 Inv-loop μ-loop
-mul-push-2 c = omega (arith, (c .before .before .before .loop-test .taken), c .before .before .before .before .before .before .before .before .before .pre .0 .2, c .before .before .before .before .before .before .before .before .before .good)
-
-shared-slice-read-push-2 : tie.Need-shared-slice-read-push-2 Inv-loop μ-loop
-shared-slice-read-push-2 c = omega (arith, (c .before .before .before .before .loop-test .taken), c .before .before .before .before .before .before .before .before .before .before .pre .0 .2)
+shared-slice-read-push c = omega (arith, c .before .before .before .before .before .loop-test .taken, c .before .before .before .before .before .before .before .before .before .before .before .pre .0 .2)
 
 push-requires : tie.Need-push-requires Inv-loop μ-loop
-push-requires c κs = (let w = c .before .before .before .before .before .loop .inv .0 in (w .stands, omega (arith, w .least, (c .before .before .before .before .loop-test .taken), c .before .before .before .before .before .loop .inv .1, c .before .before .before .before .before .before .before .before .before .before .pre .0 .3), omega (arith, w .least, (c .before .before .before .before .loop-test .taken), c .before .before .before .before .before .loop .inv .2, c .before .before .before .before .before .before .before .before .before .before .pre .0 .4), c .before .before .before .before .before .before .before .before .before .before .pre .0 .1, c .before .before .before .before .before .before .before .before .before .before .pre .1 .0 (c .before .before .before .before .before .loop .i) (c .before .before .before .before .loop-test .taken), omega (arith, c .before .before .before .before .before .loop .inv .3, sum-drop (c .before .before .before .before .before .before .before .before .before .before .args .batch .now) (c .before .before .before .before .before .loop .i) (omega (arith, c .before .before .before .before .loop-test .taken, c .before .before .before .before .before .before .before .before .before .before .pre .0 .2)))))
+push-requires c κs = let o = c .before .before .before .before .before .before .loop in let t = c .before .before .before .before .before .loop-test .taken in let a = c .before .before .before .before .before .before .before .before .before .before .before .args in let p = c .before .before .before .before .before .before .before .before .before .before .before .pre in let w = o .inv .0 in (w .stands, omega (arith, w .least, t, o .inv .1, p .0 .3), omega (arith, w .least, t, o .inv .2, p .0 .4), record { deep = p .0 .1; hash = p .1 .0 (o .i) t; is = c .before .to-zuniq-unchecked .ensures }, omega (arith, o .inv .3, sum-drop (a .batch .now) (o .i) (omega (arith, t, p .0 .2))))
 
 add-i : tie.Need-add-i Inv-loop μ-loop
 add-i c = search needs
@@ -49,7 +52,7 @@ loop-less : tie.Need-loop-less Inv-loop μ-loop
 loop-less c = search needs
 
 loop-again : tie.Need-loop-again Inv-loop μ-loop
-loop-again c = (let w = c .before .before .before .before .push .ensures in (before-next (acceptCounts (c .before .before .before .before .before .before .before .before .before .before .before .before .before .before .before .args .depth-threshold) (c .before .before .before .before .before .before .before .before .before .before .before .before .before .before .before .args .chi2-threshold)) 29 (c .before .before .before .before .before .before .before .before .before .before .before .before .before .before .before .args .depth) (c .before .before .before .before .before .before .before .before .before .before .before .before .before .before .before .args .held) (c .before .before .before .before .before .before .before .before .before .before .before .before .before .before .before .args .hashes .now) (c .before .before .before .before .before .before .before .before .before .before .before .before .before .before .before .args .batch .now) (c .before .before .before .before .before .before .before .before .before .before .before .before .before .before .before .args .zuniqs .now) (c .before .before .before .before .before .before .before .before .before .before .before .before .before .before .before .args .counts .now) 0 (c .before .before .before .before .before .before .before .before .before .before .loop .i) (c .before .before .before .before .before .before .before .before .before .before .loop .n) (c .before .before .before .before .before .before .before .before .before .before .loop .zuniqs) (c .before .before .before .before .before .before .before .before .before .before .loop .counts) (c .before .before .before .before .before .before .before .before .before .before .loop .inv .0) (c .before .before .before .before .before .before .before .before .before .loop-test .taken) (omega (arith, c .before .before .before .before .before .before .before .before .before .loop-test .taken, c .before .before .before .before .before .before .before .before .before .before .before .before .before .before .before .pre .0 .2)) _ _ _ w, c .before .before .before .before .push .kept .0 ∙ c .before .before .before .before .before .before .before .before .before .before .loop .inv .1, c .before .before .before .before .push .kept .1 .0 ∙ c .before .before .before .before .before .before .before .before .before .before .loop .inv .2, omega (arith, pushed-total (acceptCounts (c .before .before .before .before .before .before .before .before .before .before .before .before .before .before .before .args .depth-threshold) (c .before .before .before .before .before .before .before .before .before .before .before .before .before .before .before .args .chi2-threshold)) (λ y. y) (λ d h k0 k1 k2 k3 x q. accepted-count-is-sum (c .before .before .before .before .before .before .before .before .before .before .before .before .before .before .before .args .depth-threshold) (c .before .before .before .before .before .before .before .before .before .before .before .before .before .before .before .args .chi2-threshold) d h k0 k1 k2 k3 x q) 29 (c .before .before .before .before .before .before .before .before .before .before .loop .n) (entry (c .before .before .before .before .before .before .before .before .before .before .before .before .before .before .before .args .depth) (getD (c .before .before .before .before .before .before .before .before .before .before .before .before .before .before .before .args .hashes .now) (c .before .before .before .before .before .before .before .before .before .before .loop .i) 0) (getD (c .before .before .before .before .before .before .before .before .before .before .before .before .before .before .before .args .batch .now) (c .before .before .before .before .before .before .before .before .before .before .loop .i) 0)) (c .before .before .before .before .before .before .before .before .before .before .loop .zuniqs) (c .before .before .before .before .before .before .before .before .before .before .loop .counts) _ _ _ w, c .before .before .before .before .before .before .before .before .before .before .loop .inv .3, sum-drop (c .before .before .before .before .before .before .before .before .before .before .before .before .before .before .before .args .batch .now) (c .before .before .before .before .before .before .before .before .before .before .loop .i) (omega (arith, c .before .before .before .before .before .before .before .before .before .loop-test .taken, c .before .before .before .before .before .before .before .before .before .before .before .before .before .before .before .pre .0 .2)))))
+loop-again c = let o = c .before .before .before .before .before .before .before .before .before .before .before .loop in let t = c .before .before .before .before .before .before .before .before .before .before .loop-test .taken in let a = c .before .before .before .before .before .before .before .before .before .before .before .before .before .before .before .before .args in let p = c .before .before .before .before .before .before .before .before .before .before .before .before .before .before .before .before .pre in let w = c .before .before .before .before .push .ensures in let q : o .i < length (a .batch .now) = omega (arith, t, p .0 .2) in (before-next (acceptCounts (a .depth-threshold) (a .chi2-threshold)) 29 (a .depth) (a .held) (a .hashes .now) (a .batch .now) (a .zuniqs .now) (a .counts .now) 0 (o .i) (o .n) (o .zuniqs) (o .counts) (o .inv .0) t q _ _ _ w, c .before .before .before .before .push .kept .0 ∙ o .inv .1, c .before .before .before .before .push .kept .1 .0 ∙ o .inv .2, omega (arith, pushed-total (acceptCounts (a .depth-threshold) (a .chi2-threshold)) (λ y. y) (λ d h k0 k1 k2 k3 x q. accepted-count-is-sum (a .depth-threshold) (a .chi2-threshold) d h k0 k1 k2 k3 x q) 29 (o .n) (entry (a .depth) (getD (a .hashes .now) (o .i) 0) (getD (a .batch .now) (o .i) 0)) (o .zuniqs) (o .counts) _ _ _ w, o .inv .3, sum-drop (a .batch .now) (o .i) q))
 
 same-length : tie.Need-same-length Inv-loop μ-loop
 same-length c = c .before .loop .inv .1
@@ -67,10 +70,11 @@ push-all-spec =
     Inv-loop
     μ-loop
     loop-holds
+    mul-hash
+    shared-slice-read-hash
+    to-zuniq-unchecked-requires
     mul-push
     shared-slice-read-push
-    mul-push-2
-    shared-slice-read-push-2
     push-requires
     add-i
     loop-less

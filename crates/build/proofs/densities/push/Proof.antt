@@ -19,9 +19,6 @@ part-put-zuniq-start c = search needs
 part-put-zuniq-end : tie.Need-part-put-zuniq-end
 part-put-zuniq-end c = search needs
 
-to-zuniq-unchecked-requires : tie.Need-to-zuniq-unchecked-requires
-to-zuniq-unchecked-requires c κs = search needs
-
 put-zuniq-requires : tie.Need-put-zuniq-requires
 put-zuniq-requires c κs = search needs
 
@@ -44,7 +41,7 @@ add-collapse : tie.Need-add-collapse
 add-collapse c = search needs
 
 collapse-requires : tie.Need-collapse-requires
-collapse-requires c κs = let s = (stored 29 (c .before .before .before .before .before .before .before .before .before .before .before .before .before .args .n) (c .before .before .before .before .before .before .before .before .before .to-zuniq-unchecked .result) (c .before .before .before .before .before .before .before .before .before .before .before .before .before .args .depth) (c .before .before .before .before .before .before .before .before .before .before .before .before .before .args .hash) (c .before .before .before .before .before .before .before .before .before .before .before .before .before .args .density) (c .before .before .before .before .before .before .before .before .before .before .before .before .before .args .zuniqs .now) (c .before .before .before .before .before .before .before .before .before .before .before .before .before .args .densities .now) _ _ (c .before .before .before .before .before .before .before .before .before .before .before .before .before .pre .0) (c .before .before .before .before .before .before .before .before .before .before .before .before .before .pre .1) (c .before .before .before .before .before .before .before .before .before .before .before .before .before .pre .2) (record { deep = c .before .before .before .before .before .before .before .before .before .before .before .before .before .pre .3; hash = c .before .before .before .before .before .before .before .before .before .before .before .before .before .pre .4; is = c .before .before .before .before .before .before .before .before .before .to-zuniq-unchecked .ensures }) (put-front (c .before .before .before .before .before .before .before .before .before .before .before .before .before .args .n) (c .before .before .before .before .before .before .before .before .before .before .before .before .before .args .zuniqs .now) _ (c .before .before .before .before .before .before .before .before .before .to-zuniq-unchecked .result) (c .before .before .before .before .before .before .before .before .before .before .before .before .before .pre .1) (c .before .before .before .before .before .before .before .before .put-zuniq .ensures)) (put-front (c .before .before .before .before .before .before .before .before .before .before .before .before .before .args .n) (c .before .before .before .before .before .before .before .before .before .before .before .before .before .args .densities .now) _ (c .before .before .before .before .before .before .before .before .before .before .before .before .before .args .density) (c .before .before .before .before .before .before .before .before .before .before .before .before .before .pre .2) (c .before .before .before .before .put-density .ensures))) in (omega arith, s .stands, s .top)
+collapse-requires c κs = let a = c .before .before .before .before .before .before .before .before .before .before .before .before .args in let p = c .before .before .before .before .before .before .before .before .before .before .before .before .pre in let s = stored 29 (a .n) (a .zuniq) (a .depth) (a .hash) (a .density) (a .zuniqs .now) (a .densities .now) _ _ (p .0) (p .1) (p .2) (p .3) (put-front (a .n) (a .zuniqs .now) _ (a .zuniq) (p .1) (c .before .before .before .before .before .before .before .before .put-zuniq .ensures)) (put-front (a .n) (a .densities .now) _ (a .density) (p .2) (c .before .before .before .before .put-density .ensures)) in (omega arith, s .stands, s .top)
 
 same-length : tie.Need-same-length
 same-length c = search needs
@@ -53,7 +50,7 @@ same-length-2 : tie.Need-same-length-2
 same-length-2 c = search needs
 
 returns : tie.Need-returns
-returns c = let s = (stored 29 (c .before .before .before .before .before .before .before .before .before .before .before .before .before .before .before .before .before .before .args .n) (c .before .before .before .before .before .before .before .before .before .before .before .before .before .before .to-zuniq-unchecked .result) (c .before .before .before .before .before .before .before .before .before .before .before .before .before .before .before .before .before .before .args .depth) (c .before .before .before .before .before .before .before .before .before .before .before .before .before .before .before .before .before .before .args .hash) (c .before .before .before .before .before .before .before .before .before .before .before .before .before .before .before .before .before .before .args .density) (c .before .before .before .before .before .before .before .before .before .before .before .before .before .before .before .before .before .before .args .zuniqs .now) (c .before .before .before .before .before .before .before .before .before .before .before .before .before .before .before .before .before .before .args .densities .now) _ _ (c .before .before .before .before .before .before .before .before .before .before .before .before .before .before .before .before .before .before .pre .0) (c .before .before .before .before .before .before .before .before .before .before .before .before .before .before .before .before .before .before .pre .1) (c .before .before .before .before .before .before .before .before .before .before .before .before .before .before .before .before .before .before .pre .2) (record { deep = c .before .before .before .before .before .before .before .before .before .before .before .before .before .before .before .before .before .before .pre .3; hash = c .before .before .before .before .before .before .before .before .before .before .before .before .before .before .before .before .before .before .pre .4; is = c .before .before .before .before .before .before .before .before .before .before .before .before .before .before .to-zuniq-unchecked .ensures }) (put-front (c .before .before .before .before .before .before .before .before .before .before .before .before .before .before .before .before .before .before .args .n) (c .before .before .before .before .before .before .before .before .before .before .before .before .before .before .before .before .before .before .args .zuniqs .now) _ (c .before .before .before .before .before .before .before .before .before .before .before .before .before .before .to-zuniq-unchecked .result) (c .before .before .before .before .before .before .before .before .before .before .before .before .before .before .before .before .before .before .pre .1) (c .before .before .before .before .before .before .before .before .before .before .before .before .before .put-zuniq .ensures)) (put-front (c .before .before .before .before .before .before .before .before .before .before .before .before .before .before .before .before .before .before .args .n) (c .before .before .before .before .before .before .before .before .before .before .before .before .before .before .before .before .before .before .args .densities .now) _ (c .before .before .before .before .before .before .before .before .before .before .before .before .before .before .before .before .before .before .args .density) (c .before .before .before .before .before .before .before .before .before .before .before .before .before .before .before .before .before .before .pre .2) (c .before .before .before .before .before .before .before .before .before .put-density .ensures))) in let e = c .before .before .before .before .collapse .ensures in record { stands = e .stands; least = e .least; is = e .is ∙ rw (s .map-is) refl }
+returns c = let a = c .before .before .before .before .before .before .before .before .before .before .before .before .before .before .before .before .before .args in let p = c .before .before .before .before .before .before .before .before .before .before .before .before .before .before .before .before .before .pre in let s = stored 29 (a .n) (a .zuniq) (a .depth) (a .hash) (a .density) (a .zuniqs .now) (a .densities .now) _ _ (p .0) (p .1) (p .2) (p .3) (put-front (a .n) (a .zuniqs .now) _ (a .zuniq) (p .1) (c .before .before .before .before .before .before .before .before .before .before .before .before .before .put-zuniq .ensures)) (put-front (a .n) (a .densities .now) _ (a .density) (p .2) (c .before .before .before .before .before .before .before .before .before .put-density .ensures)) in let e = c .before .before .before .before .collapse .ensures in record { stands = e .stands; least = e .least; is = e .is ∙ rw (s .map-is) refl }
 
 pub push-spec : {M : Type 1} → statement M
 push-spec =
@@ -63,7 +60,6 @@ push-spec =
     sub-put-zuniq
     part-put-zuniq-start
     part-put-zuniq-end
-    to-zuniq-unchecked-requires
     put-zuniq-requires
     mul-put-density
     sub-put-density

@@ -1,6 +1,6 @@
 -- `densities::push_all` meets its contract. The loop's invariant is `Before`. Assumes nothing.
 use mathlib.Core.Path.{_≡_, refl, _∙_}
-use Prim.Native.Nat.{_-_}
+use Prim.Native.Nat.{_-_, _<_}
 use native.Mathlib.Omega.{arith}
 use lib.Ieee.{nan}
 use lib.ListN.{length}
@@ -22,20 +22,23 @@ abbrev μ-loop : tie.MeasureT-loop
 loop-holds : tie.Need-loop-holds Inv-loop μ-loop
 loop-holds c = (before-first (acceptDensities (c .before .before .before .before .args .depth-threshold) (c .before .before .before .before .args .chi2-threshold)) 29 (c .before .before .before .before .args .depth) (c .before .before .before .before .args .held) (c .before .before .before .before .args .hashes .now) (c .before .before .before .before .args .batch .now) (c .before .before .before .before .args .zuniqs .now) (c .before .before .before .before .args .densities .now) (c .before .before .before .before .pre .0 .0), refl, refl)
 
+mul-hash : tie.Need-mul-hash Inv-loop μ-loop
+mul-hash c = search needs
+
+shared-slice-read-hash : tie.Need-shared-slice-read-hash Inv-loop μ-loop
+shared-slice-read-hash c = search needs
+
+to-zuniq-unchecked-requires : tie.Need-to-zuniq-unchecked-requires Inv-loop μ-loop
+to-zuniq-unchecked-requires c κs = let o = c .before .before .before .before .loop in let t = c .before .before .before .loop-test .taken in let a = c .before .before .before .before .before .before .before .before .before .args in let p = c .before .before .before .before .before .before .before .before .before .pre in (p .0 .1, p .1 (o .i) t)
+
 mul-push : tie.Need-mul-push Inv-loop μ-loop
-mul-push c = search needs
+mul-push c = let t = c .before .before .before .before .loop-test .taken in let s = c .before .before .before .before .before .before .before .before .before .before in omega (arith, t, s .pre .0 .2, s .good)
 
 shared-slice-read-push : tie.Need-shared-slice-read-push Inv-loop μ-loop
-shared-slice-read-push c = search needs
-
-mul-push-2 : tie.Need-mul-push-2 Inv-loop μ-loop
-mul-push-2 c = omega (arith, (c .before .before .before .loop-test .taken), c .before .before .before .before .before .before .before .before .before .pre .0 .2, c .before .before .before .before .before .before .before .before .before .good)
-
-shared-slice-read-push-2 : tie.Need-shared-slice-read-push-2 Inv-loop μ-loop
-shared-slice-read-push-2 c = omega (arith, (c .before .before .before .before .loop-test .taken), c .before .before .before .before .before .before .before .before .before .before .pre .0 .2)
+shared-slice-read-push c = omega (arith, c .before .before .before .before .before .loop-test .taken, c .before .before .before .before .before .before .before .before .before .before .before .pre .0 .2)
 
 push-requires : tie.Need-push-requires Inv-loop μ-loop
-push-requires c κs = (let w = c .before .before .before .before .before .loop .inv .0 in (w .stands, omega (arith, w .least, (c .before .before .before .before .loop-test .taken), c .before .before .before .before .before .loop .inv .1, c .before .before .before .before .before .before .before .before .before .before .pre .0 .3), omega (arith, w .least, (c .before .before .before .before .loop-test .taken), c .before .before .before .before .before .loop .inv .2, c .before .before .before .before .before .before .before .before .before .before .pre .0 .4), c .before .before .before .before .before .before .before .before .before .before .pre .0 .1, c .before .before .before .before .before .before .before .before .before .before .pre .1 (c .before .before .before .before .before .loop .i) (c .before .before .before .before .loop-test .taken)))
+push-requires c κs = let o = c .before .before .before .before .before .before .loop in let t = c .before .before .before .before .before .loop-test .taken in let a = c .before .before .before .before .before .before .before .before .before .before .before .args in let p = c .before .before .before .before .before .before .before .before .before .before .before .pre in let w = o .inv .0 in (w .stands, omega (arith, w .least, t, o .inv .1, p .0 .3), omega (arith, w .least, t, o .inv .2, p .0 .4), record { deep = p .0 .1; hash = p .1 (o .i) t; is = c .before .to-zuniq-unchecked .ensures })
 
 add-i : tie.Need-add-i Inv-loop μ-loop
 add-i c = search needs
@@ -44,7 +47,7 @@ loop-less : tie.Need-loop-less Inv-loop μ-loop
 loop-less c = search needs
 
 loop-again : tie.Need-loop-again Inv-loop μ-loop
-loop-again c = (before-next (acceptDensities (c .before .before .before .before .before .before .before .before .before .before .before .before .before .before .before .args .depth-threshold) (c .before .before .before .before .before .before .before .before .before .before .before .before .before .before .before .args .chi2-threshold)) 29 (c .before .before .before .before .before .before .before .before .before .before .before .before .before .before .before .args .depth) (c .before .before .before .before .before .before .before .before .before .before .before .before .before .before .before .args .held) (c .before .before .before .before .before .before .before .before .before .before .before .before .before .before .before .args .hashes .now) (c .before .before .before .before .before .before .before .before .before .before .before .before .before .before .before .args .batch .now) (c .before .before .before .before .before .before .before .before .before .before .before .before .before .before .before .args .zuniqs .now) (c .before .before .before .before .before .before .before .before .before .before .before .before .before .before .before .args .densities .now) nan (c .before .before .before .before .before .before .before .before .before .before .loop .i) (c .before .before .before .before .before .before .before .before .before .before .loop .n) (c .before .before .before .before .before .before .before .before .before .before .loop .zuniqs) (c .before .before .before .before .before .before .before .before .before .before .loop .densities) (c .before .before .before .before .before .before .before .before .before .before .loop .inv .0) (c .before .before .before .before .before .before .before .before .before .loop-test .taken) (omega (arith, c .before .before .before .before .before .before .before .before .before .loop-test .taken, c .before .before .before .before .before .before .before .before .before .before .before .before .before .before .before .pre .0 .2)) _ _ _ (c .before .before .before .before .push .ensures), c .before .before .before .before .push .kept .0 ∙ c .before .before .before .before .before .before .before .before .before .before .loop .inv .1, c .before .before .before .before .push .kept .1 .0 ∙ c .before .before .before .before .before .before .before .before .before .before .loop .inv .2)
+loop-again c = let o = c .before .before .before .before .before .before .before .before .before .before .before .loop in let t = c .before .before .before .before .before .before .before .before .before .before .loop-test .taken in let a = c .before .before .before .before .before .before .before .before .before .before .before .before .before .before .before .before .args in let p = c .before .before .before .before .before .before .before .before .before .before .before .before .before .before .before .before .pre in let w = c .before .before .before .before .push .ensures in let q : o .i < length (a .batch .now) = omega (arith, t, p .0 .2) in (before-next (acceptDensities (a .depth-threshold) (a .chi2-threshold)) 29 (a .depth) (a .held) (a .hashes .now) (a .batch .now) (a .zuniqs .now) (a .densities .now) nan (o .i) (o .n) (o .zuniqs) (o .densities) (o .inv .0) t q _ _ _ w, c .before .before .before .before .push .kept .0 ∙ o .inv .1, c .before .before .before .before .push .kept .1 .0 ∙ o .inv .2)
 
 same-length : tie.Need-same-length Inv-loop μ-loop
 same-length c = c .before .loop .inv .1
@@ -62,10 +65,11 @@ push-all-spec =
     Inv-loop
     μ-loop
     loop-holds
+    mul-hash
+    shared-slice-read-hash
+    to-zuniq-unchecked-requires
     mul-push
     shared-slice-read-push
-    mul-push-2
-    shared-slice-read-push-2
     push-requires
     add-i
     loop-less

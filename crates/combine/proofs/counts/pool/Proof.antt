@@ -1,4 +1,5 @@
 -- `counts::pool` meets its contract. Assumes nothing.
+use mathlib.Core.Path.{refl}
 use native.Mathlib.Omega.{arith}
 use borrow.Author.Needs.{needs}
 use Rattle.combine.proofs.counts.pool.Statement.{statement}
@@ -17,13 +18,13 @@ add-t7 : tie.Need-add-t7
 add-t7 c = let k = rw (c .before .before .before .seen3 .given .1) at (c .before .before .before .before .before .pre) in record { fits = omega (arith, k) }
 
 returns : tie.Need-returns
-returns c = rw (c .before .seen .given .1)
+returns c = rw (c .before .seen .given .1) (refl, refl)
 
 returns-2 : tie.Need-returns-2
-returns-2 c = rw (c .before .seen2 .given .1)
+returns-2 c = rw (c .before .seen2 .given .1) (refl, refl)
 
 returns-3 : tie.Need-returns-3
-returns-3 c = rw (c .before .before .before .seen3 .given .1)
+returns-3 c = rw (c .before .before .before .seen3 .given .1) (refl, refl)
 
 pub pool-spec : {M : Type 1} → statement M
 pool-spec =

@@ -7,7 +7,7 @@ use Rattle.merger.specs.Merge.{acceptCounts}
 use Rattle.merger.proofs.Accept.{accepted-count-is-sum}
 use Rattle.combine.specs.Rules.{splitCount, poolRule}
 use Rattle.combine.specs.Heads.{Turned}
-use Rattle.combine.specs.Counts.{asEntry, sideOf, sawOf, actOf}
+use Rattle.combine.specs.Counts.{asEntry, zuniqIn, sideOf, sawOf, actOf}
 use Rattle.combine.specs.declared.counts.LhsRhsBoth.{LhsRhsBoth}
 use Rattle.combine.specs.declared.counts.Turn.{Turn}
 use Rattle.combine.proofs.Outcomes.{Wrote, wrote-nothing}
@@ -18,7 +18,7 @@ use Rattle.combine.proofs.counts.pool_cells.Tie as tie
 
 abbrev Inv-loop : tie.InvT-loop
 Inv-loop left-zuniqs left-counts right-zuniqs right-counts pass zuniqs₀ counts₀ lefts₀ rights₀ left₀ right₀ n₀ zuniqs counts lefts rights left right n =
-    Walking splitCount poolRule asEntry blank left-zuniqs left-counts right-zuniqs right-counts
+    Walking splitCount poolRule asEntry blank zuniqIn left-zuniqs left-counts right-zuniqs right-counts
     (Wrote pass acceptCounts zuniqs₀ counts₀ n zuniqs counts) (sideOf left) (sideOf right) lefts rights
 
 abbrev μ-loop : tie.MeasureT-loop
@@ -43,7 +43,7 @@ abbrev ReadyAt : Fetched → Type 0
 ReadyAt c =
     let o = loop c .loop in
     let a = start (loop c) .args in
-    Ready splitCount poolRule asEntry blank (a .left-zuniqs .now) (a .left-counts .now) (a .right-zuniqs .now) (a .right-counts .now)
+    Ready splitCount poolRule asEntry blank zuniqIn (a .left-zuniqs .now) (a .left-counts .now) (a .right-zuniqs .now) (a .right-counts .now)
     (Wrote (a .pass) acceptCounts (a .zuniqs .now) (a .counts .now) (o .n) (o .zuniqs) (o .counts))
     (sideOf (c .before .before .before .next .result)) (sideOf (c .next2 .result)) (o .lefts) (o .rights)
     (leftOver asEntry blank (a .left-zuniqs .now) (a .left-counts .now) (a .right-zuniqs .now) (a .right-counts .now) (sideOf (o .left)) (sideOf (o .right)) (o .lefts) (o .rights))
@@ -86,10 +86,10 @@ opens-it-left c = turned (c .before .before .before) _ (c .before .outer .given 
 opens-it-right : (c : OpenedRight) → TurnedAt (c .before .before .before) (Turn.OpenRight (c .before .outer2 .given .0 .0))
 opens-it-right c = turned (c .before .before .before) _ (c .before .outer2 .given .1)
 
-opening-left : (c : OpenedLeft) → Opens asEntry (c .before .outer .given .0 .0) (c .before .before .before .before .before .before .before .next .result .pending)
+opening-left : (c : OpenedLeft) → Opens asEntry zuniqIn (c .before .outer .given .0 .0) (c .before .before .before .before .before .before .before .next .result .pending)
 opening-left c = opens-left (ready (c .before .before .before .before)) (opens-it-left c)
 
-opening-right : (c : OpenedRight) → Opens asEntry (c .before .outer2 .given .0 .0) (c .before .before .before .before .next2 .result .pending)
+opening-right : (c : OpenedRight) → Opens asEntry zuniqIn (c .before .outer2 .given .0 .0) (c .before .before .before .before .next2 .result .pending)
 opening-right c = opens-right (ready (c .before .before .before .before)) (opens-it-right c)
 
 pub pool-cells-spec : {M : Type 1} → statement M
@@ -120,31 +120,31 @@ pool-cells-spec =
     -- a cell is shown
     (λ c. search needs)
     (λ c κs. let p = start (loop (fetched c)) .pre .0 in shown-fits (p .0) (p .1) (p .2) (ready (fetched c)) (seen c) (shows-it c))
-    (λ c κs. let s : Shown = c .before .before .before in let p = start (loop (fetched s)) .pre in shown-keeps (p .0 .0) (p .0 .1) (p .0 .2) (ready (fetched s)) (seen s) (shows-it s) accepted-count-is-sum (p .1) _ (c .before .before .pool .ensures))
+    (λ c κs. let s : Shown = c .before .before .before in let p = start (loop (fetched s)) .pre in shown-keeps (p .0 .0) (p .0 .1) (p .0 .2) (ready (fetched s)) (seen s) (shows-it s) accepted-count-is-sum (p .1) _ (c .before .before .pool .ensures .0) (c .before .before .pool .ensures .1))
     (λ c κs. tt) (λ c κs. tt)
     (λ c. let s : Shown = c .before .before .before .before .before .before .before .before .before .before in shown-less (ready (fetched s)) (sawOf (seen s)) (shows-it s) (c .before .takes-left .ensures) (c .takes-right .ensures))
-    (λ c. let s : Shown = c .before .before .before .before .before .before .before .before .before .before in let k = c .before .before .before .before .before .before .keep in shown-kept (ready (fetched s)) (seen s) (shows-it s) _ (c .before .before .before .before .before .before .before .before .before .pool .ensures) (k .ensures) (k .kept .1 .1 .0) (k .kept .1 .1 .1 .0) (c .before .takes-left .ensures) (c .takes-right .ensures))
+    (λ c. let s : Shown = c .before .before .before .before .before .before .before .before .before .before in let p = c .before .before .before .before .before .before .before .before .before .pool in let k = c .before .before .before .before .before .before .keep in shown-kept (ready (fetched s)) (seen s) (shows-it s) (p .result) (p .ensures .0) (k .ensures) (k .kept .1 .1 .0) (k .kept .1 .1 .1 .0) (c .before .takes-left .ensures) (c .takes-right .ensures))
     -- the left head is split
     (λ c. search needs)
-    (λ c κs. let o = opening-left c in (o .in-sky, o .deep, omega arith))
+    (λ c κs. let o = opening-left c in (o .good, o .deep, omega arith))
     (λ c. let r = opening-left (c .before) .room in record { fits = omega arith }) (λ c. let r = opening-left (c .before) .room in omega arith)
-    (λ c κs. let o = opening-left (c .before) in (o .in-sky, o .deep, omega arith))
+    (λ c κs. let o = opening-left (c .before) in (o .good, o .deep, omega arith))
     (λ c. let r = opening-left (c .before .before) .room in record { fits = omega arith }) (λ c. let r = opening-left (c .before .before) .room in record { fits = omega arith }) (λ c. let r = opening-left (c .before .before) .room in omega arith)
-    (λ c κs. let o = opening-left (c .before .before) in (o .in-sky, o .deep, omega arith))
+    (λ c κs. let o = opening-left (c .before .before) in (o .good, o .deep, omega arith))
     (λ c. let r = opening-left (c .before .before .before) .room in record { fits = omega arith }) (λ c. let r = opening-left (c .before .before .before) .room in record { fits = omega arith }) (λ c. let r = opening-left (c .before .before .before) .room in omega arith)
-    (λ c κs. let o = opening-left (c .before .before .before) in (o .in-sky, o .deep, omega arith))
+    (λ c κs. let o = opening-left (c .before .before .before) in (o .good, o .deep, omega arith))
     (λ c κs. let r = opening-left (c .before .before .before .before) .room in omega arith)
     (λ c. let o : OpenedLeft = c .before .before .before .before .before in left-opened-less (ready (o .before .before .before .before)) (opens-it-left o) (c .before .before .before .before .child .ensures) (c .before .before .before .child2 .ensures) (c .before .before .child3 .ensures) (c .before .child4 .ensures) (c .«open» .ensures))
     (λ c. let o : OpenedLeft = c .before .before .before .before .before in left-opened (ready (o .before .before .before .before)) (opens-it-left o) (c .before .before .before .before .child .ensures) (c .before .before .before .child2 .ensures) (c .before .before .child3 .ensures) (c .before .child4 .ensures) (c .«open» .ensures))
     -- the right head is split
     (λ c. search needs)
-    (λ c κs. let o = opening-right c in (o .in-sky, o .deep, omega arith))
+    (λ c κs. let o = opening-right c in (o .good, o .deep, omega arith))
     (λ c. let r = opening-right (c .before) .room in record { fits = omega arith }) (λ c. let r = opening-right (c .before) .room in omega arith)
-    (λ c κs. let o = opening-right (c .before) in (o .in-sky, o .deep, omega arith))
+    (λ c κs. let o = opening-right (c .before) in (o .good, o .deep, omega arith))
     (λ c. let r = opening-right (c .before .before) .room in record { fits = omega arith }) (λ c. let r = opening-right (c .before .before) .room in record { fits = omega arith }) (λ c. let r = opening-right (c .before .before) .room in omega arith)
-    (λ c κs. let o = opening-right (c .before .before) in (o .in-sky, o .deep, omega arith))
+    (λ c κs. let o = opening-right (c .before .before) in (o .good, o .deep, omega arith))
     (λ c. let r = opening-right (c .before .before .before) .room in record { fits = omega arith }) (λ c. let r = opening-right (c .before .before .before) .room in record { fits = omega arith }) (λ c. let r = opening-right (c .before .before .before) .room in omega arith)
-    (λ c κs. let o = opening-right (c .before .before .before) in (o .in-sky, o .deep, omega arith))
+    (λ c κs. let o = opening-right (c .before .before .before) in (o .good, o .deep, omega arith))
     (λ c κs. let r = opening-right (c .before .before .before .before) .room in omega arith)
     (λ c. let o : OpenedRight = c .before .before .before .before .before in right-opened-less (ready (o .before .before .before .before)) (opens-it-right o) (c .before .before .before .before .child5 .ensures) (c .before .before .before .child6 .ensures) (c .before .before .child7 .ensures) (c .before .child8 .ensures) (c .open2 .ensures))
     (λ c. let o : OpenedRight = c .before .before .before .before .before in right-opened (ready (o .before .before .before .before)) (opens-it-right o) (c .before .before .before .before .child5 .ensures) (c .before .before .before .child6 .ensures) (c .before .before .child7 .ensures) (c .before .child8 .ensures) (c .open2 .ensures)))

@@ -2,23 +2,26 @@
 use mathlib.Core.Path.{refl}
 use native.Mathlib.Omega.{arith}
 use Rattle.combine.specs.Rules.{copyDensity}
-use Rattle.combine.proofs.Heads.{child-fits, child-is}
+use Rattle.combine.proofs.Heads.{child-fits, child-in-sky, child-is}
 use borrow.Author.Needs.{needs}
 use Rattle.combine.proofs.densities.child.Statement.{statement}
 use Rattle.combine.proofs.densities.child.Tie as tie
 
-add-t3 : tie.Need-add-t3
-add-t3 c = search needs
+add-depth : tie.Need-add-depth
+add-depth c = search needs
 
-mul-t4 : tie.Need-mul-t4
-mul-t4 c = let k = child-fits _ _ _ (c .before .before .pre .1) (c .before .before .pre .0 .1) (c .before .before .pre .2) in record { fits = omega (arith, k) }
+mul-hash : tie.Need-mul-hash
+mul-hash c = let p = c .before .before .pre in let k = child-fits _ _ _ (p .1) (p .0 .hash) (p .2) in record { fits = omega (arith, k) }
 
-add-t6 : tie.Need-add-t6
-add-t6 c = let k = child-fits _ _ _ (c .before .before .pre .1) (c .before .before .pre .0 .1) (c .before .before .pre .2) in record { fits = omega (arith, k) }
+add-hash : tie.Need-add-hash
+add-hash c = let p = c .before .before .pre in let k = child-fits _ _ _ (p .1) (p .0 .hash) (p .2) in record { fits = omega (arith, k) }
+
+to-zuniq-unchecked-requires : tie.Need-to-zuniq-unchecked-requires
+to-zuniq-unchecked-requires c κs = let p = c .before .before .pre in child-in-sky _ _ _ (p .1) (p .0 .hash) (p .2)
 
 returns : tie.Need-returns
 unfolding copyDensity
-returns c = child-is _ _ _ _ _ refl
+returns c = let p = c .before .before .before .pre in let k = child-in-sky _ _ _ (p .1) (p .0 .hash) (p .2) in (record { deep = k .0; hash = k .1; is = c .to-zuniq-unchecked .ensures }, child-is _ _ _ _ _ refl)
 
 pub child-spec : {M : Type 1} → statement M
-child-spec = tie.close (tie.spec add-t3 mul-t4 add-t6 returns)
+child-spec = tie.close (tie.spec add-depth mul-hash add-hash to-zuniq-unchecked-requires returns)

@@ -4,7 +4,7 @@ use mathlib.Core.Bool.{not, Bool·not-not}
 use native.Mathlib.Omega.{arith}
 use lib.Ieee.{nan}
 use Rattle.combine.specs.Heads.{stays, pops, fetches, finishes}
-use Rattle.combine.specs.Densities.{asEntry, headOf}
+use Rattle.combine.specs.Densities.{asEntry, zuniqIn, headOf}
 use Rattle.combine.proofs.Heads.{entry-known}
 use borrow.Author.Needs.{needs}
 use Rattle.combine.proofs.densities.next.Statement.{statement}
@@ -29,13 +29,13 @@ enum-known-cell : tie.Need-enum-known-cell
 enum-known-cell c = search needs
 
 add-t14 : tie.Need-add-t14
-add-t14 c = let a = c .before .before .before .before .before .before .before .before .before .before .args in let k = entry-known asEntry nan (a .zuniqs .now) (a .densities .now) _ _ _ (ap headOf (c .before .cell .given .1)) (c .before .before .before .head-at .ensures) in record { fits = omega (arith, k .0, c .before .before .before .before .before .before .before .before .before .before .good) }
+add-t14 c = let a = c .before .before .before .before .before .before .before .before .before .before .args in let k = entry-known asEntry zuniqIn nan (a .zuniqs .now) (a .densities .now) _ _ _ (ap headOf (c .before .cell .given .1)) (c .before .before .before .head-at .ensures) in record { fits = omega (arith, k .0, c .before .before .before .before .before .before .before .before .before .before .good) }
 
 returns-3 : tie.Need-returns-3
-returns-3 c = let a = c .before .before .before .before .before .before .before .before .before .args in finishes (sym (Bool·not-not _) ∙ ap not (c .before .before .before .before .before .if1 .left)) (c .before .before .before .if2 .left) (entry-known asEntry nan (a .zuniqs .now) (a .densities .now) _ _ _ (ap headOf (c .enum-told .given .1)) (c .before .before .head-at .ensures)) refl
+returns-3 c = let a = c .before .before .before .before .before .before .before .before .before .args in finishes (sym (Bool·not-not _) ∙ ap not (c .before .before .before .before .before .if1 .left)) (c .before .before .before .if2 .left) (entry-known asEntry zuniqIn nan (a .zuniqs .now) (a .densities .now) _ _ _ (ap headOf (c .enum-told .given .1)) (c .before .before .head-at .ensures)) refl
 
 returns-4 : tie.Need-returns-4
-returns-4 c = let a = c .before .before .before .before .before .before .before .before .before .before .args in fetches (sym (Bool·not-not _) ∙ ap not (c .before .before .before .before .before .before .if1 .left)) (c .before .before .before .before .if2 .left) _ (entry-known asEntry nan (a .zuniqs .now) (a .densities .now) _ _ _ (ap headOf (c .before .cell .given .1)) (c .before .before .before .head-at .ensures)) refl
+returns-4 c = let a = c .before .before .before .before .before .before .before .before .before .before .args in fetches (sym (Bool·not-not _) ∙ ap not (c .before .before .before .before .before .before .if1 .left)) (c .before .before .before .before .if2 .left) _ (entry-known asEntry zuniqIn nan (a .zuniqs .now) (a .densities .now) _ _ _ (ap headOf (c .before .cell .given .1)) (c .before .before .before .head-at .ensures)) refl
 
 pub next-spec : {M : Type 1} → statement M
 next-spec =

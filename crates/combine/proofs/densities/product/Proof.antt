@@ -1,4 +1,5 @@
 -- `densities::product` meets its contract. Assumes nothing.
+use mathlib.Core.Path.{refl}
 use borrow.Author.Needs.{needs}
 use Rattle.combine.proofs.densities.product.Statement.{statement}
 use Rattle.combine.proofs.densities.product.Tie as tie
@@ -19,7 +20,7 @@ returns-2 : tie.Need-returns-2
 returns-2 c = search needs
 
 returns-3 : tie.Need-returns-3
-returns-3 c = rw (c .before .before .before .seen .given .1)
+returns-3 c = rw (c .before .before .before .seen .given .1) (refl, refl)
 
 pub product-spec : {M : Type 1} → statement M
 product-spec =

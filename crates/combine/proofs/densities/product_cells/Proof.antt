@@ -5,7 +5,7 @@ use native.Mathlib.Omega.{arith}
 use borrow.Author.Needs.{needs}
 use Rattle.combine.specs.Rules.{copyDensity, productRule}
 use Rattle.combine.specs.Heads.{Turned}
-use Rattle.combine.specs.Densities.{asEntry, sideOf, sawOf, actOf}
+use Rattle.combine.specs.Densities.{asEntry, zuniqIn, sideOf, sawOf, actOf}
 use Rattle.combine.specs.declared.densities.LhsRhsBoth.{LhsRhsBoth}
 use Rattle.combine.specs.declared.densities.Turn.{Turn}
 use Rattle.combine.proofs.Walking.{Walking, Ready, Opens, leftOver, walking-start, walking-ready, heads-shallow, ready-ends, shown-less, opens-left, left-opened, left-opened-less, opens-right, right-opened, right-opened-less}
@@ -15,7 +15,7 @@ use Rattle.combine.proofs.densities.product_cells.Tie as tie
 
 abbrev Inv-loop : tie.InvT-loop
 Inv-loop left-zuniqs left-densities right-zuniqs right-densities k pass zuniqs₀ densities₀ lefts₀ rights₀ left₀ right₀ n₀ zuniqs densities lefts rights left right n =
-    Walking copyDensity (productRule k) asEntry blank left-zuniqs left-densities right-zuniqs right-densities
+    Walking copyDensity (productRule k) asEntry blank zuniqIn left-zuniqs left-densities right-zuniqs right-densities
     (WroteFinite pass zuniqs₀ densities₀ n zuniqs densities) (sideOf left) (sideOf right) lefts rights
 
 abbrev μ-loop : tie.MeasureT-loop
@@ -40,7 +40,7 @@ abbrev ReadyAt : Fetched → Type 0
 ReadyAt c =
     let o = loop c .loop in
     let a = start (loop c) .args in
-    Ready copyDensity (productRule (a .k)) asEntry blank (a .left-zuniqs .now) (a .left-densities .now) (a .right-zuniqs .now) (a .right-densities .now)
+    Ready copyDensity (productRule (a .k)) asEntry blank zuniqIn (a .left-zuniqs .now) (a .left-densities .now) (a .right-zuniqs .now) (a .right-densities .now)
     (WroteFinite (a .pass) (a .zuniqs .now) (a .densities .now) (o .n) (o .zuniqs) (o .densities))
     (sideOf (c .before .before .before .next .result)) (sideOf (c .next2 .result)) (o .lefts) (o .rights)
     (leftOver asEntry blank (a .left-zuniqs .now) (a .left-densities .now) (a .right-zuniqs .now) (a .right-densities .now) (sideOf (o .left)) (sideOf (o .right)) (o .lefts) (o .rights))
@@ -83,10 +83,10 @@ opens-it-left c = turned (c .before .before .before) _ (c .before .outer .given 
 opens-it-right : (c : OpenedRight) → TurnedAt (c .before .before .before) (Turn.OpenRight (c .before .outer2 .given .0 .0))
 opens-it-right c = turned (c .before .before .before) _ (c .before .outer2 .given .1)
 
-opening-left : (c : OpenedLeft) → Opens asEntry (c .before .outer .given .0 .0) (c .before .before .before .before .before .before .before .next .result .pending)
+opening-left : (c : OpenedLeft) → Opens asEntry zuniqIn (c .before .outer .given .0 .0) (c .before .before .before .before .before .before .before .next .result .pending)
 opening-left c = opens-left (ready (c .before .before .before .before)) (opens-it-left c)
 
-opening-right : (c : OpenedRight) → Opens asEntry (c .before .outer2 .given .0 .0) (c .before .before .before .before .next2 .result .pending)
+opening-right : (c : OpenedRight) → Opens asEntry zuniqIn (c .before .outer2 .given .0 .0) (c .before .before .before .before .next2 .result .pending)
 opening-right c = opens-right (ready (c .before .before .before .before)) (opens-it-right c)
 
 pub product-cells-spec : {M : Type 1} → statement M
@@ -117,35 +117,35 @@ product-cells-spec =
     -- a cell is shown
     (λ c. search needs)
     (λ c κs. tt)
-    (λ c κs. let s : Shown = c .before .before .before in shown-keeps (ready (fetched s)) (seen s) (shows-it s) (start (loop (fetched s)) .pre .1) (c .before .before .product .result) (c .before .before .product .ensures))
+    (λ c κs. let s : Shown = c .before .before .before in shown-keeps (ready (fetched s)) (seen s) (shows-it s) (start (loop (fetched s)) .pre .1) (c .before .before .product .result) (c .before .before .product .ensures .0) (c .before .before .product .ensures .1))
     (λ c. search needs) (λ c. search needs)
     (λ c. let s : Shown = c .before .before .before .before .before .before .before .before .before .before in c .before .before .before .before .before .before .keep .kept .1 .1 .0 ∙ loop (fetched s) .loop .inv .wrote .wrote .zuniqs)
     (λ c. let s : Shown = c .before .before .before .before .before .before .before .before .before .before in c .before .before .before .before .before .before .keep .kept .1 .1 .1 .0 ∙ loop (fetched s) .loop .inv .wrote .wrote .values)
-    (λ c. let s : Shown = c .before .before .before .before .before .before .before .before .before .before in let p = c .before .before .before .before .before .before .before .before .before .product in shown-not-finite (ready (fetched s)) (seen s) (shows-it s) _ _ (p .result) (p .ensures) _ (c .before .before .before .before .before .before .keep .ensures) (c .enum-told2 .given .1))
+    (λ c. let s : Shown = c .before .before .before .before .before .before .before .before .before .before in let p = c .before .before .before .before .before .before .before .before .before .product in shown-not-finite (ready (fetched s)) (seen s) (shows-it s) _ _ (p .result) (p .ensures .0) _ (c .before .before .before .before .before .before .keep .ensures) (c .enum-told2 .given .1))
     (λ c κs. tt) (λ c κs. tt)
     (λ c. let s : Shown = c .before .before .before .before .before .before .before .before .before .before .before .before .before in shown-less (ready (fetched s)) (sawOf (seen s)) (shows-it s) (c .before .takes-left .ensures) (c .takes-right .ensures))
-    (λ c. let s : Shown = c .before .before .before .before .before .before .before .before .before .before .before .before .before in let p = c .before .before .before .before .before .before .before .before .before .before .before .before .product in let k = c .before .before .before .before .before .before .before .before .before .keep in shown-kept (ready (fetched s)) (seen s) (shows-it s) _ _ (p .result) (p .ensures) _ (k .ensures) _ (c .before .before .before .cells .given .1) (k .kept .1 .1 .0) (k .kept .1 .1 .1 .0) (c .before .takes-left .ensures) (c .takes-right .ensures))
+    (λ c. let s : Shown = c .before .before .before .before .before .before .before .before .before .before .before .before .before in let p = c .before .before .before .before .before .before .before .before .before .before .before .before .product in let k = c .before .before .before .before .before .before .before .before .before .keep in shown-kept (ready (fetched s)) (seen s) (shows-it s) _ _ (p .result) (p .ensures .0) _ (k .ensures) _ (c .before .before .before .cells .given .1) (k .kept .1 .1 .0) (k .kept .1 .1 .1 .0) (c .before .takes-left .ensures) (c .takes-right .ensures))
     -- the left head is split
     (λ c. search needs)
-    (λ c κs. let o = opening-left c in (o .in-sky, o .deep, omega arith))
+    (λ c κs. let o = opening-left c in (o .good, o .deep, omega arith))
     (λ c. let r = opening-left (c .before) .room in record { fits = omega arith }) (λ c. let r = opening-left (c .before) .room in omega arith)
-    (λ c κs. let o = opening-left (c .before) in (o .in-sky, o .deep, omega arith))
+    (λ c κs. let o = opening-left (c .before) in (o .good, o .deep, omega arith))
     (λ c. let r = opening-left (c .before .before) .room in record { fits = omega arith }) (λ c. let r = opening-left (c .before .before) .room in record { fits = omega arith }) (λ c. let r = opening-left (c .before .before) .room in omega arith)
-    (λ c κs. let o = opening-left (c .before .before) in (o .in-sky, o .deep, omega arith))
+    (λ c κs. let o = opening-left (c .before .before) in (o .good, o .deep, omega arith))
     (λ c. let r = opening-left (c .before .before .before) .room in record { fits = omega arith }) (λ c. let r = opening-left (c .before .before .before) .room in record { fits = omega arith }) (λ c. let r = opening-left (c .before .before .before) .room in omega arith)
-    (λ c κs. let o = opening-left (c .before .before .before) in (o .in-sky, o .deep, omega arith))
+    (λ c κs. let o = opening-left (c .before .before .before) in (o .good, o .deep, omega arith))
     (λ c κs. let r = opening-left (c .before .before .before .before) .room in omega arith)
     (λ c. let o : OpenedLeft = c .before .before .before .before .before in left-opened-less (ready (o .before .before .before .before)) (opens-it-left o) (c .before .before .before .before .child .ensures) (c .before .before .before .child2 .ensures) (c .before .before .child3 .ensures) (c .before .child4 .ensures) (c .«open» .ensures))
     (λ c. let o : OpenedLeft = c .before .before .before .before .before in left-opened (ready (o .before .before .before .before)) (opens-it-left o) (c .before .before .before .before .child .ensures) (c .before .before .before .child2 .ensures) (c .before .before .child3 .ensures) (c .before .child4 .ensures) (c .«open» .ensures))
     -- the right head is split
     (λ c. search needs)
-    (λ c κs. let o = opening-right c in (o .in-sky, o .deep, omega arith))
+    (λ c κs. let o = opening-right c in (o .good, o .deep, omega arith))
     (λ c. let r = opening-right (c .before) .room in record { fits = omega arith }) (λ c. let r = opening-right (c .before) .room in omega arith)
-    (λ c κs. let o = opening-right (c .before) in (o .in-sky, o .deep, omega arith))
+    (λ c κs. let o = opening-right (c .before) in (o .good, o .deep, omega arith))
     (λ c. let r = opening-right (c .before .before) .room in record { fits = omega arith }) (λ c. let r = opening-right (c .before .before) .room in record { fits = omega arith }) (λ c. let r = opening-right (c .before .before) .room in omega arith)
-    (λ c κs. let o = opening-right (c .before .before) in (o .in-sky, o .deep, omega arith))
+    (λ c κs. let o = opening-right (c .before .before) in (o .good, o .deep, omega arith))
     (λ c. let r = opening-right (c .before .before .before) .room in record { fits = omega arith }) (λ c. let r = opening-right (c .before .before .before) .room in record { fits = omega arith }) (λ c. let r = opening-right (c .before .before .before) .room in omega arith)
-    (λ c κs. let o = opening-right (c .before .before .before) in (o .in-sky, o .deep, omega arith))
+    (λ c κs. let o = opening-right (c .before .before .before) in (o .good, o .deep, omega arith))
     (λ c κs. let r = opening-right (c .before .before .before .before) .room in omega arith)
     (λ c. let o : OpenedRight = c .before .before .before .before .before in right-opened-less (ready (o .before .before .before .before)) (opens-it-right o) (c .before .before .before .before .child5 .ensures) (c .before .before .before .child6 .ensures) (c .before .before .child7 .ensures) (c .before .child8 .ensures) (c .open2 .ensures))
     (λ c. let o : OpenedRight = c .before .before .before .before .before in right-opened (ready (o .before .before .before .before)) (opens-it-right o) (c .before .before .before .before .child5 .ensures) (c .before .before .before .child6 .ensures) (c .before .before .child7 .ensures) (c .before .child8 .ensures) (c .open2 .ensures)))
