@@ -17,6 +17,23 @@ pub struct AddCall {
     pub batch: usize,
 }
 
+/// A map of a combining call but for its values, of which only the number is drawn.
+#[derive(Clone, Debug)]
+pub struct Side {
+    pub depth: u8,
+    pub zuniqs: Vec<u64>,
+    pub values: usize,
+}
+
+/// The arguments of a combining call but for the values and the output.
+#[derive(Clone, Debug)]
+pub struct CombineCall {
+    pub sides: [Side; 2],
+    pub m: u8,
+    pub t: f64,
+    pub k: f64,
+}
+
 impl Draw {
     pub fn new(seed: u64) -> Self {
         Draw(seed)
@@ -201,5 +218,92 @@ impl Draw {
             zuniqs,
             hashes,
         }
+    }
+    /// Entries in a cell and maybe below it: round the cells of one way down to `end`, and now and
+    /// then elsewhere. The way is the hash of its cell at depth 29.
+    fn cover(&mut self, (d, h): (u8, u64), way: u64, end: u8, deepest: u8, map: &mut Vec<u64>) {
+        let on_way = d < end && way >> (2 * (29 - d)) == h;
+        if on_way || d < deepest && self.one_in(8) {
+            for child in 0..4 {
+                self.cover((d + 1, 4 * h + child), way, end, deepest, map);
+            }
+        } else if !self.one_in(4) {
+            map.push((2 * h + 1) << (2 * (29 - d)));
+        }
+    }
+
+    /// A map round the way, now and then with something wrong in it.
+    fn side(&mut self, way: u64) -> Side {
+        let depth = self.depth();
+        let deepest = depth.min(29);
+        let end = self.below(deepest as usize + 1) as u8;
+        let mut zuniqs = Vec::new();
+        let all = self.one_in(4);
+        for base in 0..12 {
+            if all || base == way >> 58 {
+                self.cover((0, base), way, end, deepest, &mut zuniqs);
+            }
+        }
+        match self.below(16) {
+            0 => zuniqs = self.map(),
+            1 if !zuniqs.is_empty() => {
+                let place = self.below(zuniqs.len());
+                zuniqs[place] = self.zuniq();
+            }
+            2 => zuniqs.clear(),
+            _ => {}
+        }
+        let values = zuniqs.len() + self.one_in(32) as usize;
+        Side {
+            depth,
+            zuniqs,
+            values,
+        }
+    }
+
+    /// Two maps round one way, so that entries of each lie in entries of the other.
+    pub fn combine_call(&mut self) -> CombineCall {
+        let way = self.below(12 << 58) as u64;
+        CombineCall {
+            sides: [self.side(way), self.side(way)],
+            m: if self.one_in(2) { 0 } else { self.depth() },
+            // Split counts are large and so is their chi.
+            t: if self.one_in(3) {
+                self.few_bits() as f64
+            } else {
+                self.float()
+            },
+            k: if self.one_in(2) { 1.0 } else { self.float() },
+        }
+    }
+
+    /// Counts of two maps whose total mostly is a u32, and now and then the last one or just none.
+    pub fn pool_counts(&mut self, [left, right]: [usize; 2]) -> [Vec<u32>; 2] {
+        let mut counts: Vec<u32> = if self.one_in(16) {
+            self.counts_of(left + right)
+        } else {
+            let mut small = || self.bits() as u32 >> (10 + self.below(22));
+            (0..left + right).map(|_| small()).collect()
+        };
+        if !counts.is_empty() && self.one_in(8) {
+            let place = self.below(counts.len());
+            counts[place] = 0;
+            let total: u64 = counts.iter().map(|&n| n as u64).sum();
+            let rest = (u32::MAX as u64).saturating_sub(total) + self.below(2) as u64;
+            counts[place] = rest.min(u32::MAX as u64) as u32;
+        }
+        let right = counts.split_off(left);
+        [counts, right]
+    }
+
+    /// The zuniqs of an output and the number of its values, mostly enough for so many cells.
+    pub fn output(&mut self, cells: usize) -> (Vec<u64>, usize) {
+        let places = match self.below(16) {
+            0 => self.below(cells + 1),
+            1 => cells.saturating_sub(1),
+            _ => cells + self.below(3),
+        };
+        let zuniqs: Vec<u64> = (0..places).map(|_| self.zuniq()).collect();
+        (zuniqs, places + self.one_in(32) as usize)
     }
 }

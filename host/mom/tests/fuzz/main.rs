@@ -2,7 +2,7 @@
 //! is what the scope says (`plain`, written as it is read there), and nothing outside the lent
 //! buffers changes.
 //!
-//! MOM_FUZZ_SECONDS gives each test its time; without it each makes a thousand rounds.
+//! Each test makes a thousand rounds, and goes on for as long as MOM_FUZZ_SECONDS says.
 
 mod draw;
 mod plain;
@@ -13,8 +13,8 @@ use std::{
     time::{Duration, Instant},
 };
 
-use draw::Draw;
-use mom::{rows, CountMerge, DensityMerge, MapCheck, Refusal};
+use draw::{Draw, Side};
+use mom::{rows, CountMerge, DensityMerge, Map, MapCheck, Refusal};
 
 /// Rounds with one seed, the same in every run; how many there are in the time is printed.
 fn rounds(name: &str, mut round: impl FnMut(&mut Draw)) {
@@ -22,11 +22,15 @@ fn rounds(name: &str, mut round: impl FnMut(&mut Draw)) {
     let end = seconds.map(|s| Instant::now() + Duration::from_secs(s.parse().unwrap()));
     let mut draw = Draw::new(1);
     let mut number = 0;
-    while end.map_or(number < 1_000, |end| Instant::now() < end) {
+    while number < 1_000 || end.is_some_and(|end| Instant::now() < end) {
         round(&mut draw);
         number += 1;
     }
     println!("fuzz of {name}: {number} rounds");
+}
+
+fn bits(xs: &[f64]) -> Vec<u64> {
+    xs.iter().map(|x| x.to_bits()).collect()
 }
 
 /// The numbers of the refusals that were met, 0 for an accepted call.
@@ -193,11 +197,52 @@ fn adding() {
         let batch = draw.densities_of(call.batch);
         let expected = plain::add_densities(&call, &z, &x, &batch);
         let answer = mom::add_densities(d, m, t, held, &mut z, &mut x, &call.hashes, &batch);
-        let bits = |xs: &[f64]| xs.iter().map(|x| x.to_bits()).collect::<Vec<_>>();
         densities.add(&answer);
         assert_eq!((answer, z), (expected.0, expected.1), "{call:?} {batch:?}");
         assert_eq!(bits(&x), bits(&expected.2), "{call:?} {batch:?}");
     });
     counts.assert_all(&[0, 1, 2, 3, 4, 5, 7, 8, 10, 11]);
     densities.assert_all(&[0, 1, 2, 3, 4, 5, 6, 7, 8, 9, 11]);
+}
+
+fn map<'a, V>(side: &'a Side, values: &'a [V]) -> Map<'a, V> {
+    Map {
+        depth: side.depth,
+        zuniqs: &side.zuniqs,
+        values,
+    }
+}
+
+#[test]
+fn combining() {
+    let (mut pools, mut products) = (Met::default(), Met::default());
+    rounds("combining", |draw| {
+        let call = draw.combine_call();
+        let (m, t, k) = (call.m, call.t, call.k);
+        let overlay = plain::overlay(&call.sides).unwrap_or_default();
+        let [left, right] = &call.sides;
+
+        let [l, r] = draw.pool_counts([left.values, right.values]);
+        let (mut z, places) = draw.output(overlay.len());
+        let mut n = draw.counts_of(places);
+        let expected = plain::pool(&call, [&l, &r], &z, &n);
+        let answer = mom::pool(map(left, &l), map(right, &r), m, t, &mut z, &mut n)
+            .map(|added| (added.entries, added.total));
+        pools.add(&answer);
+        assert_eq!((answer, z, n), expected, "{call:?} {l:?} {r:?}");
+
+        let l = draw.densities_of(left.values);
+        let r = draw.densities_of(right.values);
+        let both = |(_, entries): &&plain::Part| entries.iter().all(Option::is_some);
+        let (mut z, places) = draw.output(overlay.iter().filter(both).count());
+        let mut x = draw.densities_of(places);
+        let expected = plain::product(&call, [&l, &r], &z, &x);
+        let answer = mom::product(map(left, &l), map(right, &r), m, t, k, &mut z, &mut x);
+        products.add(&answer);
+        let shown = || format!("{call:?} {l:?} {r:?}");
+        assert_eq!((answer, z), (expected.0, expected.1), "{}", shown());
+        assert_eq!(bits(&x), bits(&expected.2), "{}", shown());
+    });
+    pools.assert_all(&[0, 1, 2, 3, 4, 5, 10, 11]);
+    products.assert_all(&[0, 1, 2, 3, 4, 5, 6, 10, 11]);
 }

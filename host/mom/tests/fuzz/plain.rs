@@ -4,7 +4,7 @@ use std::ops::Range;
 
 use mom::{Fault, MapCheck, Refusal};
 
-use super::draw::AddCall;
+use super::draw::{AddCall, CombineCall, Side};
 
 type Cell = (u8, u64);
 type Answer<T> = Result<T, Refusal>;
@@ -259,13 +259,17 @@ fn build<V: Copy + Default>(
     for (&hash, &value) in call.hashes.iter().zip(batch) {
         append(&mut entries, (call.depth, hash), value, &merge);
     }
-    let number = entries.len();
+    buffers(&entries, call.zuniqs.len())
+}
+
+/// "Every place after the entries is 0." With their number.
+fn buffers<V: Copy + Default>(entries: &[(Cell, V)], places: usize) -> (Vec<u64>, Vec<V>, usize) {
     let zuniqs = entries.iter().map(|&((d, h), _)| encode(d, h).unwrap());
     let mut zuniqs: Vec<u64> = zuniqs.collect();
     let mut values: Vec<V> = entries.iter().map(|&(_, value)| value).collect();
-    zuniqs.resize(call.zuniqs.len(), 0);
-    values.resize(call.zuniqs.len(), V::default());
-    (zuniqs, values, number)
+    zuniqs.resize(places, 0);
+    values.resize(places, V::default());
+    (zuniqs, values, entries.len())
 }
 
 type Added<A, V> = (Answer<A>, Vec<u64>, Vec<V>);
@@ -317,6 +321,160 @@ pub fn add_densities(
         Ok(()) => {
             let merge = |p, densities| merge_densities(p, call.m, call.t, densities).ok();
             let (zuniqs, densities, number) = build(call, densities, batch, merge);
+            (Ok(number), zuniqs, densities)
+        }
+        Err(refusal) => (Err(refusal), z.to_vec(), densities.to_vec()),
+    }
+}
+
+// ---- Section 5
+
+/// A cell of the overlay, and the place of the entry that it lies in, left and right.
+pub type Part = (Cell, [Option<usize>; 2]);
+
+/// The overlay of two maps; `None` where one of them is invalid.
+pub fn overlay(sides: &[Side; 2]) -> Option<Vec<Part>> {
+    let valid = |side: &Side| check(side.depth, &side.zuniqs) == Ok(MapCheck::Valid);
+    if !sides.iter().all(valid) {
+        return None;
+    }
+    let cells = |side: &Side| side.zuniqs.iter().map(|&z| cell_of(z).unwrap()).collect();
+    let maps: [Vec<Cell>; 2] = [cells(&sides[0]), cells(&sides[1])];
+    let mut parts = Vec::new();
+    for base in 0..12 {
+        overlay_in((0, base), &maps, &mut parts);
+    }
+    Some(parts)
+}
+
+/// "The largest cells that lie in an entry of at least one map and, for each map, lie in one of its
+/// entries or overlap none": those in one cell, rising.
+fn overlay_in(cell: Cell, maps: &[Vec<Cell>; 2], parts: &mut Vec<Part>) {
+    let entry = |map: &Vec<Cell>| map.iter().position(|&entry| lies_in(cell, entry));
+    let fits =
+        |map: &Vec<Cell>| entry(map).is_some() || !map.iter().any(|&entry| overlap(cell, entry));
+    if !maps.iter().all(fits) {
+        for child in 0..4 {
+            overlay_in((cell.0 + 1, 4 * cell.1 + child), maps, parts);
+        }
+        return;
+    }
+    let entries = [entry(&maps[0]), entry(&maps[1])];
+    if entries != [None, None] {
+        parts.push((cell, entries));
+    }
+}
+
+/// The overlay cells with the values that the rule gives them; those that it drops are left out.
+fn ruled<V: Copy>(
+    sides: &[Side; 2],
+    values: [&[V]; 2],
+    split: impl Fn(V, u64) -> V,
+    rule: impl Fn(Option<V>, Option<V>) -> Option<V>,
+) -> Vec<(Cell, V)> {
+    let value_at = |side: usize, place: usize, (d, h): Cell| {
+        let (e, _) = cell_of(sides[side].zuniqs[place]).unwrap();
+        // "Level by level".
+        let children = (e + 1..=d).map(|level| h / 4u64.pow((d - level) as u32) % 4);
+        children.fold(values[side][place], &split)
+    };
+    let value = |(cell, [left, right]): Part| {
+        let left = left.map(|place| value_at(0, place, cell));
+        let right = right.map(|place| value_at(1, place, cell));
+        Some((cell, rule(left, right)?))
+    };
+    let parts = overlay(sides).unwrap();
+    parts.into_iter().filter_map(value).collect()
+}
+
+fn check_settings(call: &CombineCall) -> Answer<()> {
+    depth(call.sides[0].depth)?;
+    depth(call.sides[1].depth)?;
+    refuse_if(call.m > 29, 2, 0)?;
+    refuse_if(call.t.is_nan(), 3, 0)
+}
+
+fn check_sides<V>(sides: &[Side; 2], values: [&[V]; 2], z: &[u64], out: &[V]) -> Answer<()> {
+    let [left, right] = sides;
+    refuse_if(left.zuniqs.len() != values[0].len(), 4, 0)?;
+    refuse_if(right.zuniqs.len() != values[1].len(), 4, 0)?;
+    refuse_if(z.len() != out.len(), 4, 0)?;
+    for side in sides {
+        if let Some((place, _)) = first_fault(side.depth, &side.zuniqs) {
+            return refused(5, place);
+        }
+    }
+    Ok(())
+}
+
+/// "The defined map with overlay cells in place of listed ones", in an output of so many places.
+fn merged<V: Copy + Default>(
+    cells: &[(Cell, V)],
+    places: usize,
+    merge: impl Fn(u8, [V; 4]) -> Option<V>,
+) -> (Vec<u64>, Vec<V>, usize) {
+    let mut entries = Vec::new();
+    for &(cell, value) in cells {
+        append(&mut entries, cell, value, &merge);
+    }
+    buffers(&entries, places)
+}
+
+pub fn pool(
+    call: &CombineCall,
+    values: [&[u32]; 2],
+    z: &[u64],
+    counts: &[u32],
+) -> Added<(usize, u32), u32> {
+    let split = |v: u32, child: u64| v / 4 + (child < (v % 4) as u64) as u32;
+    let rule = |left: Option<u32>, right: Option<u32>| match (left, right) {
+        (Some(left), Some(right)) => Some(left + right),
+        (alone, None) | (None, alone) => alone,
+    };
+    let check = || {
+        check_settings(call)?;
+        check_sides(&call.sides, values, z, counts)?;
+        let total: u64 = values.concat().iter().map(|&n| n as u64).sum();
+        refuse_if(total > u32::MAX as u64, 10, 0)?;
+        let cells = ruled(&call.sides, values, split, rule);
+        refuse_if(z.len() < cells.len(), 11, 0)?;
+        Ok((cells, total as u32))
+    };
+    match check() {
+        Ok((cells, total)) => {
+            let merge = |p, counts| merge_counts(p, call.m, call.t, counts).ok();
+            let (zuniqs, counts, number) = merged(&cells, z.len(), merge);
+            (Ok((number, total)), zuniqs, counts)
+        }
+        Err(refusal) => (Err(refusal), z.to_vec(), counts.to_vec()),
+    }
+}
+
+pub fn product(
+    call: &CombineCall,
+    values: [&[f64]; 2],
+    z: &[u64],
+    densities: &[f64],
+) -> Added<usize, f64> {
+    let check = || {
+        check_settings(call)?;
+        refuse_if(invalid(call.k), 3, 0)?;
+        check_sides(&call.sides, values, z, densities)?;
+        for side in values {
+            if let Some(place) = side.iter().position(|&x| invalid(x)) {
+                return refused(6, place);
+            }
+        }
+        let rule = |left: Option<f64>, right: Option<f64>| Some((call.k * left?) * right?);
+        let cells = ruled(&call.sides, values, |v, _| v, rule);
+        refuse_if(cells.iter().any(|(_, x)| !x.is_finite()), 10, 0)?;
+        refuse_if(z.len() < cells.len(), 11, 0)?;
+        Ok(cells)
+    };
+    match check() {
+        Ok(cells) => {
+            let merge = |p, densities| merge_densities(p, call.m, call.t, densities).ok();
+            let (zuniqs, densities, number) = merged(&cells, z.len(), merge);
             (Ok(number), zuniqs, densities)
         }
         Err(refusal) => (Err(refusal), z.to_vec(), densities.to_vec()),
