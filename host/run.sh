@@ -5,11 +5,12 @@
 #     host/run.sh [SECONDS [SEED]]
 #
 # First what needs the archive or the program alone: the C header, the crate `mom`, the runs of
-# `mombuild` beside a reading of its rules, and every call on random arguments, for about a tenth of
-# SECONDS on two cores. Then the live comparison
-# with the original Rust, both where its arithmetic wraps (release) and where it panics (checked):
-# the tests of `oracle` and `differential`, and the comparison itself, for SECONDS in all (60) from
-# SEED (1). Last, that the stored answers in crates/replay/stdin are those that the original gives.
+# `mombuild` beside a reading of its rules, a sixth of SECONDS of them on random texts, and every C
+# function on random arguments, for about SECONDS of processor time, so half as long on two cores.
+# Both draw from a seed of their own, the same in every run. Then the live comparison with the
+# original Rust, both where its arithmetic wraps (release) and where it panics (checked): the tests
+# of `oracle` and `differential`, and the comparison itself, for SECONDS in all (60) from SEED (1).
+# Last, that the stored answers in crates/replay/stdin are those that the original gives.
 # Where docs/src or the crates can't be had, the live comparison says `skipped` and why.
 #
 # The last line is `N passed, M failed`, or `N passed, M failed, K skipped`, over everything that
@@ -54,12 +55,13 @@ mom_tests() {
 }
 
 mombuild_tests() {
-    cd mombuild && cargo test --quiet --no-fail-fast
+    cd mombuild && MOMBUILD_SECONDS=$(((seconds + 5) / 6)) \
+        cargo test --quiet --no-fail-fast -- --nocapture
 }
 
-# Six tests, each for a thirtieth of the time.
+# Seven tests, each for a seventh of the time.
 fuzz() {
-    cd mom && MOM_FUZZ_SECONDS=$(((seconds + 29) / 30)) \
+    cd mom && MOM_FUZZ_SECONDS=$(((seconds + 6) / 7)) \
         cargo test --quiet --release --test fuzz -- --nocapture
 }
 

@@ -8,6 +8,7 @@ use std::{
     io::{ErrorKind, Write},
     path::PathBuf,
     process::{Command, Stdio},
+    time::{Duration, Instant},
 };
 
 /// The program that the gate has built, or the one that MOMBUILD names.
@@ -351,11 +352,16 @@ fn noise(random: &mut Random) -> Vec<u8> {
         .collect()
 }
 
+/// Three thousand texts, and more for as long as MOMBUILD_SECONDS says.
 #[test]
 fn no_generated_text_is_read_otherwise() {
+    let seconds = env::var("MOMBUILD_SECONDS").ok();
+    let end = seconds.map(|s| Instant::now() + Duration::from_secs(s.parse().unwrap()));
     let mut random = Random(1);
     let mut outcomes: BTreeMap<String, usize> = BTreeMap::new();
-    for _ in 0..3000 {
+    let mut texts = 0;
+    while texts < 3_000 || end.is_some_and(|end| Instant::now() < end) {
+        texts += 1;
         let text = match random.below(10) {
             0 => noise(&mut random),
             1..=4 => nearly_valid(&mut random),
@@ -378,7 +384,7 @@ fn no_generated_text_is_read_otherwise() {
         };
         *outcomes.entry(kind).or_default() += 1;
     }
-    println!("{outcomes:?}");
+    println!("{texts} generated texts: {outcomes:?}");
     for number in [0, 1, 2, 7, 8, 10] {
         let refused = outcomes.get(&format!("refused by {number}"));
         assert!(refused.is_some_and(|&texts| texts >= 10), "{outcomes:?}");
