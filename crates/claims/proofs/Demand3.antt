@@ -15,7 +15,7 @@ use Rattle.zuniq.specs.declared.refusal.Refusal.{Refusal}
 use Rattle.zuniq.proofs.Ranges.{lies-in-self, lies-in-same-depth}
 use Rattle.merger.specs.Merge.{acceptCounts}
 use Rattle.merger.proofs.Accept.{accepted-count-is-sum}
-use Rattle.build.specs.Map.{Entry, definedMap}
+use Rattle.build.specs.Map.{Entry}
 use Rattle.build.specs.Add.{mapRefusal}
 use Rattle.build.specs.Buffers.{zuniqOf, valueOf, laid, zuniqBuffer, valueBuffer}
 use Rattle.build.specs.Promises.{Any, Has, Rises, Covers, Sums}

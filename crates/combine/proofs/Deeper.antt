@@ -1,11 +1,11 @@
 -- The overlay is the same over any depth that no entry exceeds. Assumes nothing.
 use mathlib.Core.Path.{_≡_, refl, ap, sym, _∙_}
-use mathlib.Core.Bool.{Bool, true, _&&_, cond}
+use mathlib.Core.Bool.{true, _&&_, cond}
 use mathlib.Core.List.{List, [], _∷_}
 use mathlib.Core.Logic.{inl, inr, ⊎-elim}
 use Prim.Native.Nat.{ℕ, zero, suc, _+_, _*_, _-_, _≤_}
 use native.Mathlib.Omega.{arith}
-use Rattle.build.specs.Map.{Entry, itselfOr, joined}
+use Rattle.build.specs.Map.{Entry, itselfOr}
 use Rattle.build.specs.Promises.{Has, Covers}
 use Rattle.combine.specs.Overlay.{Seen, Split, fits, seenAt, overlayIn, overlay}
 use Rattle.combine.proofs.Fits.{lies-in-of-overlap, Touches, fits-of-touches}

@@ -1,18 +1,16 @@
 -- The entries of a valid map rise, none is deeper than its depth, and they are read back as they were laid. Assumes nothing.
-use mathlib.Core.Path.{_≡_, refl, ap, sym, _∙_}
+use mathlib.Core.Path.{_≡_, refl, ap}
 use mathlib.Core.List.{List, [], _∷_, map}
 use mathlib.Core.Logic.{inl, inr, ⊎-elim}
 use Prim.Native.Nat.{ℕ, _+_, _≤_, _<_}
 use native.Mathlib.Omega.{arith}
 use lib.ListN.{length}
 use Rattle.zuniq.specs.Cells.{nHash, end}
-use Rattle.zuniq.specs.Codec.{decode}
-use Rattle.zuniq.specs.declared.Decoded.{Decoded}
 use Rattle.zuniq.proofs.Codec.{cell, decodes}
 use Rattle.zuniq.proofs.Ranges.{valid-iff-end-le}
 use Rattle.mom.specs.Map.{ValidMap}
 use Rattle.mom.proofs.Rises.{Rises as ZuniqsRise, valid-rises}
-use Rattle.build.specs.Map.{Entry, entry}
+use Rattle.build.specs.Map.{Entry}
 use Rattle.build.specs.Buffers.{zuniqOf, valueOf}
 use Rattle.build.specs.Promises.{Has, Rises}
 use Rattle.build.specs.Add.{sumOf}

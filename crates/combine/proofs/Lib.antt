@@ -13,6 +13,7 @@ pub mod Shown
 pub mod CountCells
 pub mod Deeper
 pub mod Given
+pub mod Passed
 pub mod PoolCall
 pub mod Checks
 pub mod DensityCells

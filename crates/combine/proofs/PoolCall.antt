@@ -1,107 +1,38 @@
 -- The pool call: what one that is not refused may rely on, what it leaves, and that it is the same with the maps swapped.
 -- Assumes nothing.
-use mathlib.Core.Path.{_≡_, refl, ap, ap₂, sym, _∙_, subst}
+use mathlib.Core.Path.{_≡_, refl, ap, ap₂, sym, _∙_}
 use mathlib.Core.Bool.{Bool, true, false, _||_, not}
 use mathlib.Core.List.{List, [], reverse, _++_}
-use mathlib.Core.Option.{Option, none, some}
-use Prim.Native.Nat.{ℕ, _+_, _-_, _≤_, _<_, max}
+use mathlib.Core.Option.{none, some}
+use Prim.Native.Nat.{ℕ, _+_, _-_, _≤_, _<_}
 use native.Mathlib.Omega.{arith}
 use lib.Dec.{eqb, ltb}
 use lib.Ieee.{Float}
 use lib.ListN.{length, take, replicate}
-use borrow.Author.Tests.{lt-ltb, le-ltb, ltb-false, eqb-true, not-false}
+use borrow.Author.Tests.{lt-ltb, le-ltb, ltb-false}
 use Rattle.zuniq.specs.Cells.{nHash}
 use Rattle.zuniq.specs.declared.refusal.Refusal.{Refusal}
 use Rattle.merger.specs.Merge.{acceptCounts}
 use Rattle.merger.proofs.Accept.{accepted-count-is-sum}
-use Rattle.mom.specs.Map.{firstFault, ValidMap}
-use Rattle.build.specs.Map.{Entry, Merger, orElse, definedMap}
-use Rattle.build.specs.Stack.{run}
+use Rattle.build.specs.Map.{Entry}
 use Rattle.build.specs.Buffers.{held, readOnto}
-use Rattle.build.specs.Promises.{Rises, Sums}
+use Rattle.build.specs.Promises.{Rises}
 use Rattle.build.specs.Calls.{Buffers, Answer}
-use Rattle.build.specs.Standing.{Stands, Added}
-use Rattle.build.specs.Add.{refusedIf, mapRefusal, sumOf}
+use Rattle.build.specs.Standing.{Added}
+use Rattle.build.specs.Add.{sumOf}
 use Rattle.build.specs.Counts.{totalOf, Report, countCalls, countsAdded}
 use Rattle.build.specs.declared.counts.CountsAdded.{CountsAdded}
 use Rattle.build.proofs.Entries.{total-reverse}
-use Rattle.build.proofs.Order.{rises-deeper-iff, defined-map-deeper}
 use Rattle.build.proofs.Places.{held-length}
-use Rattle.build.proofs.Checking.{or-else-none, refused-if-none, or-false-both, map-passes}
-use Rattle.build.proofs.Adding.{run-total}
+use Rattle.build.proofs.Checking.{or-else-none, refused-if-none}
 use Rattle.build.proofs.Accepted.{map-left}
 use Rattle.combine.specs.Overlay.{overlay}
-use Rattle.combine.specs.Rules.{kept, splitCount, poolRule, combined, definedPool}
-use Rattle.combine.specs.Slices.{Holds}
+use Rattle.combine.specs.Rules.{kept, splitCount, poolRule, definedPool}
 use Rattle.combine.specs.Pool.{Given, entries, resultDepth, settingsRefusal, pairsRefusal, mapsRefusal, sumsRefusal, placesRefusal, poolKept, poolInputRefusal, poolRefusal, poolOver, poolCounts}
-use Rattle.combine.proofs.Kept.{kept-overlay-rises, run-gives-combined, kept-swapped, pool-rule-swapped, pool-swap, pool-total}
+use Rattle.combine.proofs.Kept.{run-gives-combined, kept-swapped, pool-rule-swapped, pool-swap, pool-total}
 use Rattle.combine.proofs.Swap.{overlay-swap}
-use Rattle.combine.proofs.Deeper.{Shallow, overlay-deeper}
-use Rattle.combine.proofs.Given.{entries-rise, entries-shallow, entries-total}
-
--- ---- any two maps
--- Two maps that pass: of depths that there are, valid, each with a value for each zuniq; and output buffers of one length.
-pub record Passed {A : Type 0} (l r : Given A) (places values : ℕ) : Type 0 where
-  pub left-deep : l .depth ≤ 29
-  pub right-deep : r .depth ≤ 29
-  pub left-paired : length (l .zuniqs) ≡ length (l .values)
-  pub right-paired : length (r .zuniqs) ≡ length (r .values)
-  pub paired : places ≡ values
-  pub left-valid : ValidMap 29 (l .depth) (l .zuniqs)
-  pub right-valid : ValidMap 29 (r .depth) (r .zuniqs)
-
-settings-pass : (Dl Dr M : ℕ) (T : Float) → settingsRefusal Dl Dr M T ≡ none → (Dl ≤ 29) × (Dr ≤ 29)
-unfolding settingsRefusal
-settings-pass Dl Dr M T e =
-    let b = or-false-both (ltb 29 Dl) (ltb 29 Dr) (refused-if-none _ _ (or-else-none _ _ e .0)) in
-    (ltb-false 29 Dl (b .0), ltb-false 29 Dr (b .1))
-
-pairs-pass : (lz lv rz rv places values : ℕ) → pairsRefusal lz lv rz rv places values ≡ none → (lz ≡ lv) × (rz ≡ rv) × (places ≡ values)
-unfolding pairsRefusal
-pairs-pass lz lv rz rv places values e =
-    let b = or-false-both (not (eqb lz lv)) (not (eqb rz rv) || not (eqb places values)) (refused-if-none _ _ e) in
-    let c = or-false-both (not (eqb rz rv)) (not (eqb places values)) (b .1) in
-    (eqb-true lz lv (not-false _ (b .0)), eqb-true rz rv (not-false _ (c .0)), eqb-true places values (not-false _ (c .1)))
-
-pub passed : {A : Type 0} (l r : Given A) (M : ℕ) (T : Float) (places values : ℕ) → settingsRefusal (l .depth) (r .depth) M T ≡ none
-    → pairsRefusal (length (l .zuniqs)) (length (l .values)) (length (r .zuniqs)) (length (r .values)) places values ≡ none → mapsRefusal l r ≡ none → Passed l r places values
-unfolding mapsRefusal
-passed l r M T places values a b c =
-    let d = settings-pass (l .depth) (r .depth) M T a in
-    let p = pairs-pass _ _ _ _ places values b in
-    let m = or-else-none (mapRefusal (firstFault 29 (l .depth) (l .zuniqs))) (mapRefusal (firstFault 29 (r .depth) (r .zuniqs))) c in
-    record {
-      left-deep = d .0;
-      right-deep = d .1;
-      left-paired = p .0;
-      right-paired = p .1;
-      paired = p .2;
-      left-valid = map-passes (l .depth) (l .zuniqs) (m .0);
-      right-valid = map-passes (r .depth) (r .zuniqs) (m .1);
-    }
-
--- Their entries rise, and none is deeper than the result.
-module _ {A : Type 0} (l r : Given A) (places values : ℕ) (p : Passed l r places values) where
-  pub left-rises : Rises 29 0 (nHash 29) (entries l)
-  left-rises = entries-rise (l .depth) (l .zuniqs) (l .values) (p .left-paired) (p .left-valid)
-
-  pub right-rises : Rises 29 0 (nHash 29) (entries r)
-  right-rises = entries-rise (r .depth) (r .zuniqs) (r .values) (p .right-paired) (p .right-valid)
-
-  pub left-shallow : Shallow (resultDepth l r) (entries l)
-  left-shallow e m = omega (arith, entries-shallow (l .depth) (l .zuniqs) (l .values) (p .left-paired) (p .left-valid) e m)
-
-  pub right-shallow : Shallow (resultDepth l r) (entries r)
-  right-shallow e m = omega (arith, entries-shallow (r .depth) (r .zuniqs) (r .values) (p .right-paired) (p .right-valid) e m)
-
-  pub result-deep : resultDepth l r ≤ 29
-  result-deep = omega (arith, p .left-deep, p .right-deep)
-
--- ---- the pool
-pub record PoolPassed (l r : Given ℕ) (places values : ℕ) : Type 0 where
-  pub maps : Passed l r places values
-  pub fits : sumOf (l .values) + sumOf (r .values) ≤ 4294967295
-  pub room : length (poolKept l r) ≤ places
+use Rattle.combine.proofs.Given.{entries-total}
+use Rattle.combine.proofs.Passed.{Passed, passed, kept-deeper, combined-deeper}
 
 pub pool-input-passes : (l r : Given ℕ) (M : ℕ) (T : Float) (places values : ℕ) → poolInputRefusal l r M T places values ≡ none
     → Passed l r places values × (sumOf (l .values) + sumOf (r .values) ≤ 4294967295)
@@ -111,13 +42,6 @@ pool-input-passes l r M T places values e =
     let b = or-else-none (pairsRefusal (length (l .zuniqs)) (length (l .values)) (length (r .zuniqs)) (length (r .values)) places values) _ (a .1) in
     let c = or-else-none (mapsRefusal l r) _ (b .1) in
     (passed l r M T places values (a .0) (b .0) (c .0), ltb-false _ _ (refused-if-none _ _ (c .1)))
-
-pub pool-passes : (l r : Given ℕ) (M : ℕ) (T : Float) (places values : ℕ) → poolRefusal l r M T places values ≡ none → PoolPassed l r places values
-unfolding poolRefusal placesRefusal
-pool-passes l r M T places values e =
-    let a = or-else-none (poolInputRefusal l r M T places values) _ e in
-    let i = pool-input-passes l r M T places values (a .0) in
-    record { maps = i .0; fits = i .1; room = ltb-false _ _ (refused-if-none _ _ (a .1)) }
 
 -- What a walk that merges leaves, with every place after it cleared, told by the definition over all depths that there are.
 module _ (l r : List (Entry ℕ)) (p : Rises 29 0 (nHash 29) l) (q : Rises 29 0 (nHash 29) r) (M : ℕ) (T : Float) (zs vs : List ℕ) where
@@ -154,24 +78,6 @@ module _ (l r : List (Entry ℕ)) (M : ℕ) (T : Float) (zs vs zs′ vs′ : Lis
   pool-made p q c u n sum zs₁ vs₁ zs₂ vs₂ w lz lv ez ev es =
       let a : Added (acceptCounts M T) 29 0 walked zs vs n zs₁ vs₁ = rw (c .1, c .2) at w in
       rw (le-ltb (length zs) (length walked) (omega (arith, u, c .0, ap length (c .1)))) (pool-left l r p q M T zs vs n sum zs₁ vs₁ zs₂ vs₂ a (lz ∙ ap length (c .1)) (lv ∙ ap length (c .2)) ez ev es)
-
--- The pool of two maps is the same over the larger of their depths as over all depths.
-module _ (l r : Given ℕ) (places values : ℕ) (p : Passed l r places values) where
-  abbrev D : ℕ
-  D = resultDepth l r
-
-  pub walked-cells : kept poolRule (overlay splitCount 29 (entries l) (entries r)) ≡ poolKept l r
-  walked-cells = ap (kept poolRule) (overlay-deeper splitCount (entries l) (entries r) D (left-shallow l r _ _ p) (right-shallow l r _ _ p) 29 (result-deep l r _ _ p))
-
-  pool-deeper : (accept : Merger ℕ) → definedPool accept 29 (entries l) (entries r) ≡ definedPool accept D (entries l) (entries r)
-  unfolding combined
-  pool-deeper accept =
-      ap (definedMap accept 29) walked-cells
-      ∙ sym (defined-map-deeper D 29 (result-deep l r _ _ p) accept (poolKept l r) (kept-overlay-rises poolRule accept splitCount D (entries l) (entries r)))
-
-  pub pool-over-all : (o : Option Refusal) (M : ℕ) (T : Float) (zs vs : List ℕ) → poolOver 29 o (entries l) (entries r) M T zs vs ≡ poolOver D o (entries l) (entries r) M T zs vs
-  unfolding poolOver
-  pool-over-all o M T zs vs = rw (pool-deeper (acceptCounts M T)) refl
 
 -- ---- the maps swapped
 or-swap : (a b c : Bool) → (a || (b || c)) ≡ (b || (a || c))
@@ -211,19 +117,12 @@ module _ (l r : Given ℕ) (M : ℕ) (T : Float) (zs vs : List ℕ) where
   unfolding poolCounts poolRefusal poolOver
   pool-refused x e = rw e refl
 
-  -- Maps that pass are in the slices as the walk takes them.
-  pub passed-holds : Passed l r (length zs) (length vs) → Holds (l .zuniqs) (l .values) × Holds (r .zuniqs) (r .values)
-  passed-holds p = (
-    record { paired = p .left-paired; valid = p .left-valid .valid; rises = left-rises l r _ _ p },
-    record { paired = p .right-paired; valid = p .right-valid .valid; rises = right-rises l r _ _ p },
-  )
-
   pub passed-total : Passed l r (length zs) (length vs) → totalOf (entries l) + totalOf (entries r) ≡ sumOf (l .values) + sumOf (r .values)
   passed-total p = ap₂ _+_ (entries-total (l .depth) (l .zuniqs) (l .values) (p .left-paired) (p .left-valid)) (entries-total (r .depth) (r .zuniqs) (r .values) (p .right-paired) (p .right-valid))
 
   pub pool-done : poolInputRefusal l r M T (length zs) (length vs) ≡ none → (t : CountsAdded × List ℕ × List ℕ)
       → t ≡ poolOver 29 (placesRefusal (length zs) (length (kept poolRule (overlay splitCount 29 (entries l) (entries r))))) (entries l) (entries r) M T zs vs → t ≡ poolCounts l r M T zs vs
-  unfolding poolCounts poolRefusal
+  unfolding poolCounts poolRefusal poolOver
   pool-done e t q =
       let p = pool-input-passes l r M T (length zs) (length vs) e .0 in
-      rw e (q ∙ ap (λ (c : List (Entry ℕ)). poolOver 29 (placesRefusal (length zs) (length c)) (entries l) (entries r) M T zs vs) (walked-cells l r _ _ p) ∙ pool-over-all l r _ _ p _ M T zs vs)
+      rw e (q ∙ rw (kept-deeper l r _ _ p splitCount poolRule, combined-deeper l r _ _ p splitCount poolRule (acceptCounts M T)) refl)

@@ -1,6 +1,6 @@
 -- The product call: what one that is not refused leaves. Assumes nothing.
 use mathlib.Core.Path.{_≡_, refl, ap, sym, _∙_}
-use mathlib.Core.Bool.{Bool, true, false, true≢false}
+use mathlib.Core.Bool.{true≢false}
 use mathlib.Core.List.{List, reverse, _++_}
 use mathlib.Core.Option.{Option, none, some}
 use Prim.Native.Nat.{ℕ, _+_, _-_, _≤_, _<_}
@@ -11,26 +11,23 @@ use borrow.Author.Tests.{lt-ltb, le-ltb}
 use Rattle.zuniq.specs.declared.refusal.Refusal.{Refusal}
 use Rattle.merger.specs.Floats.{0·0}
 use Rattle.merger.specs.Merge.{acceptDensities}
-use Rattle.build.specs.Map.{Entry, Merger, orElse, definedMap}
+use Rattle.build.specs.Map.{Entry, orElse}
 use Rattle.build.specs.Buffers.{held, readOnto}
 use Rattle.build.specs.Calls.{Buffers, Answer}
 use Rattle.build.specs.Standing.{Added}
 use Rattle.build.specs.Densities.{densityCalls, densitiesAdded}
 use Rattle.build.specs.declared.densities.DensitiesAdded.{DensitiesAdded}
-use Rattle.build.proofs.Order.{defined-map-deeper}
 use Rattle.build.proofs.Places.{held-length}
 use Rattle.build.proofs.Checking.{or-else-none}
 use Rattle.build.proofs.Accepted.{map-left}
 use Rattle.combine.specs.Overlay.{overlay}
-use Rattle.combine.specs.Rules.{kept, combined, copyDensity, productRule, definedProduct}
-use Rattle.combine.specs.Densities.{someNotFinite, CellsOutcome}
+use Rattle.combine.specs.Rules.{kept, copyDensity, productRule, definedProduct}
+use Rattle.combine.specs.Densities.{CellsOutcome}
 use Rattle.combine.specs.declared.Pass.{Pass}
 use Rattle.combine.specs.declared.densities.Cells.{Cells}
-use Rattle.combine.specs.Slices.{Holds}
-use Rattle.combine.specs.Pool.{Given, entries, resultDepth, settingsRefusal, factorRefusal, pairsRefusal, mapsRefusal, placesRefusal, productKept, finiteRefusal, productInputRefusal, productRefusal, productOver, productDensities}
-use Rattle.combine.proofs.Kept.{kept-overlay-rises, run-gives-combined}
-use Rattle.combine.proofs.Deeper.{overlay-deeper}
-use Rattle.combine.proofs.PoolCall.{Passed, passed, left-rises, right-rises, left-shallow, right-shallow, result-deep}
+use Rattle.combine.specs.Pool.{Given, entries, settingsRefusal, factorRefusal, pairsRefusal, mapsRefusal, placesRefusal, finiteRefusal, productInputRefusal, productRefusal, productOver, productDensities}
+use Rattle.combine.proofs.Kept.{run-gives-combined}
+use Rattle.combine.proofs.Passed.{Passed, passed, kept-deeper, combined-deeper}
 
 -- What a walk that merges leaves, with every place after it cleared, told by the definition over all depths that there are.
 module _ (l r : List (Entry Float)) (M : ℕ) (T k : Float) (zs : List ℕ) (vs : List Float) where
@@ -100,24 +97,6 @@ module _ (l r : List (Entry Float)) (M : ℕ) (T k : Float) (zs : List ℕ) (vs 
               let a : Added (acceptDensities M T) 29 0 walked zs vs n zs₁ vs₁ = rw (c .1 .1, c .1 .2) at merged in
               rw (c .0, le-ltb (length zs) (length walked) (omega (arith, u, c .1 .0, ap length (c .1 .1)))) (product-left n zs₁ vs₁ zs₂ vs₂ a (lz ∙ ap length (c .1 .1)) (lv ∙ ap length (c .1 .2)) ez ev)
 
--- The product of two maps is the same over the larger of their depths as over all depths.
-module _ (l r : Given Float) (k : Float) (places values : ℕ) (p : Passed l r places values) where
-  abbrev D : ℕ
-  D = resultDepth l r
-
-  product-walked : kept (productRule k) (overlay copyDensity 29 (entries l) (entries r)) ≡ productKept k l r
-  product-walked = ap (kept (productRule k)) (overlay-deeper copyDensity (entries l) (entries r) D (left-shallow l r _ _ p) (right-shallow l r _ _ p) 29 (result-deep l r _ _ p))
-
-  product-deeper : (accept : Merger Float) → definedProduct accept k 29 (entries l) (entries r) ≡ definedProduct accept k D (entries l) (entries r)
-  unfolding combined
-  product-deeper accept =
-      ap (definedMap accept 29) product-walked
-      ∙ sym (defined-map-deeper D 29 (result-deep l r _ _ p) accept (productKept k l r) (kept-overlay-rises (productRule k) accept copyDensity D (entries l) (entries r)))
-
-  product-over-all : (o : Option Refusal) (M : ℕ) (T : Float) (zs : List ℕ) (vs : List Float) → productOver 29 o (entries l) (entries r) M T k zs vs ≡ productOver D o (entries l) (entries r) M T k zs vs
-  unfolding productOver
-  product-over-all o M T zs vs = rw (product-deeper (acceptDensities M T)) refl
-
 -- ---- the call
 module _ (l r : Given Float) (M : ℕ) (T k : Float) (zs : List ℕ) (vs : List Float) where
   pub product-passes : productInputRefusal l r M T k (length zs) (length vs) ≡ none → Passed l r (length zs) (length vs)
@@ -133,15 +112,9 @@ module _ (l r : Given Float) (M : ℕ) (T k : Float) (zs : List ℕ) (vs : List 
   unfolding productDensities productRefusal productOver
   product-refused x e = rw e refl
 
-  pub product-holds : Passed l r (length zs) (length vs) → Holds (l .zuniqs) (l .values) × Holds (r .zuniqs) (r .values)
-  product-holds p = (
-    record { paired = p .left-paired; valid = p .left-valid .valid; rises = left-rises l r _ _ p },
-    record { paired = p .right-paired; valid = p .right-valid .valid; rises = right-rises l r _ _ p },
-  )
-
   pub product-done : productInputRefusal l r M T k (length zs) (length vs) ≡ none → (t : DensitiesAdded × List ℕ × List Float)
       → t ≡ productOver 29 (after (entries l) (entries r) M T k zs vs) (entries l) (entries r) M T k zs vs → t ≡ productDensities l r M T k zs vs
-  unfolding productDensities productRefusal
+  unfolding productDensities productRefusal productOver
   product-done e t q =
       let p = product-passes e in
-      rw e (q ∙ ap (λ (c : List (Entry Float)). productOver 29 (orElse (finiteRefusal c) (placesRefusal (length zs) (length c))) (entries l) (entries r) M T k zs vs) (product-walked l r k _ _ p) ∙ product-over-all l r k _ _ p _ M T zs vs)
+      rw e (q ∙ rw (kept-deeper l r _ _ p copyDensity (productRule k), combined-deeper l r _ _ p copyDensity (productRule k) (acceptDensities M T)) refl)

@@ -1,6 +1,6 @@
 -- Section 5 of the scope: the pool and product calls. A call's refusals are one definition, the first that applies in the order of
 -- the table "Refusals in checking order", "in each row left map before right"; its answer and the output afterwards are another.
-use mathlib.Core.Bool.{Bool, _||_, not}
+use mathlib.Core.Bool.{_||_, not}
 use mathlib.Core.List.{List, reverse}
 use mathlib.Core.Option.{Option}
 use Prim.Native.Nat.{ℕ, _+_, max}

@@ -69,7 +69,7 @@ pub enum Turn {
 
 // Walks the overlay of two valid maps. Counting, it answers how many cells the pool has before
 // merging; merging, it makes the pool in the two output buffers and answers how many entries it has.
-pub fn pool_cells(
+pub(crate) fn pool_cells(
     left_zuniqs: &[u64],
     left_counts: &[u32],
     right_zuniqs: &[u64],

@@ -81,7 +81,7 @@ pub enum Cells {
 // Walks the overlay of two valid maps. Counting, it answers how many cells the product has before
 // merging; merging, it makes the product in the two output buffers and answers how many entries it
 // has. Either ends at the first value that is not finite.
-pub fn product_cells(
+pub(crate) fn product_cells(
     left_zuniqs: &[u64],
     left_densities: &[f64],
     right_zuniqs: &[u64],

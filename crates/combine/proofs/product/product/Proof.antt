@@ -3,7 +3,8 @@ use mathlib.Core.Path.{sym, _∙_}
 use lib.ListN.{length}
 use Rattle.build.proofs.Checking.{check-passed, check-refused}
 use Rattle.combine.specs.Pool.{productInputRefusal}
-use Rattle.combine.proofs.ProductCall.{product-passes, product-refused, product-holds, product-done}
+use Rattle.combine.proofs.Passed.{passed-holds}
+use Rattle.combine.proofs.ProductCall.{product-passes, product-refused, product-done}
 use borrow.Author.Needs.{needs}
 use Rattle.combine.proofs.product.product.Statement.{statement}
 use Rattle.combine.proofs.product.product.Tie as tie
@@ -21,7 +22,7 @@ enum-told : tie.Need-enum-told
 enum-told c = search needs
 
 product-checked-requires : tie.Need-product-checked-requires
-product-checked-requires c κs = let a = c .before .before .before .before .before .before .before .before .before .before .before .args in let p = product-passes (record { depth = a .left-depth; zuniqs = a .left-zuniqs .now; values = a .left-densities .now }) (record { depth = a .right-depth; zuniqs = a .right-zuniqs .now; values = a .right-densities .now }) (a .depth-threshold) (a .chi2-threshold) (a .k) (a .zuniqs .now) (a .densities .now) (check-passed (productInputRefusal (record { depth = a .left-depth; zuniqs = a .left-zuniqs .now; values = a .left-densities .now }) (record { depth = a .right-depth; zuniqs = a .right-zuniqs .now; values = a .right-densities .now }) (a .depth-threshold) (a .chi2-threshold) (a .k) (length (a .zuniqs .now)) (length (a .densities .now))) (sym (c .before .before .enum-told .given .1) ∙ c .before .before .before .before .check .ensures)) in let h = product-holds (record { depth = a .left-depth; zuniqs = a .left-zuniqs .now; values = a .left-densities .now }) (record { depth = a .right-depth; zuniqs = a .right-zuniqs .now; values = a .right-densities .now }) (a .depth-threshold) (a .chi2-threshold) (a .k) (a .zuniqs .now) (a .densities .now) p in (h .0, h .1, p .paired)
+product-checked-requires c κs = let a = c .before .before .before .before .before .before .before .before .before .before .before .args in let p = product-passes (record { depth = a .left-depth; zuniqs = a .left-zuniqs .now; values = a .left-densities .now }) (record { depth = a .right-depth; zuniqs = a .right-zuniqs .now; values = a .right-densities .now }) (a .depth-threshold) (a .chi2-threshold) (a .k) (a .zuniqs .now) (a .densities .now) (check-passed (productInputRefusal (record { depth = a .left-depth; zuniqs = a .left-zuniqs .now; values = a .left-densities .now }) (record { depth = a .right-depth; zuniqs = a .right-zuniqs .now; values = a .right-densities .now }) (a .depth-threshold) (a .chi2-threshold) (a .k) (length (a .zuniqs .now)) (length (a .densities .now))) (sym (c .before .before .enum-told .given .1) ∙ c .before .before .before .before .check .ensures)) in let h = passed-holds (record { depth = a .left-depth; zuniqs = a .left-zuniqs .now; values = a .left-densities .now }) (record { depth = a .right-depth; zuniqs = a .right-zuniqs .now; values = a .right-densities .now }) _ _ p in (h .0, h .1, p .paired)
 
 same-length : tie.Need-same-length
 same-length c = search needs
