@@ -157,6 +157,14 @@ pub fn get_overlapped_cells<Z: ZUniqHashT, V: SkyMapValue>(
         .collect()
 }
 
+/// How many there are, with none copied.
+pub fn number_of_overlapped_cells<Z: ZUniqHashT, V: SkyMapValue>(
+    mom: &MomVecImpl<Z, V>,
+    zuniq: Z,
+) -> usize {
+    mom.get_overlapped_cells(zuniq).len()
+}
+
 // ---- Section 4: building from (hash, value) cells of depth `depth`
 
 pub fn build_counts<Z: ZUniqHashT>(
@@ -250,6 +258,22 @@ pub fn write_rows<Z: ZUniqHashT, V: SkyMapValue>(entries: Vec<(Z, V)>) -> (Vec<u
 
 pub fn read_rows<Z: Z4FITS, V: V4FITS>(bytes: &[u8]) -> Vec<(Z, V)> {
     MomSliceImpl::new(0, bytes).owned_entries().collect()
+}
+
+/// `write_all_entries` into bytes that are lent.
+pub fn write_rows_into<Z: ZUniqHashT, V: SkyMapValue>(
+    mom: &MomVecImpl<Z, V>,
+    bytes: &mut [u8],
+) -> usize {
+    mom.write_all_entries(bytes).unwrap()
+}
+
+/// The entries of rows, put into two buffers that are lent.
+pub fn read_rows_into<Z: Z4FITS, V: V4FITS>(bytes: &[u8], zuniqs: &mut [Z], values: &mut [V]) {
+    let rows = MomSliceImpl::<Z, V>::new(0, bytes).owned_entries();
+    for ((entry, zuniq), value) in rows.zip(zuniqs).zip(values) {
+        (*zuniq, *value) = entry;
+    }
 }
 
 pub fn rows_check_is_mom<Z: Z4FITS, V: V4FITS>(depth: u8, bytes: &[u8]) -> Result<(), String> {

@@ -1,0 +1,50 @@
+//! The works that are timed. Each is first done once by both, and the answers are held together.
+
+pub mod adding;
+pub mod combining;
+pub mod growth;
+pub mod lookup;
+pub mod program;
+pub mod rows;
+
+use crate::measure::Rounds;
+
+/// How large the works are.
+#[derive(Clone, Copy)]
+pub struct Plan {
+    pub rounds: Rounds,
+    /// Depths are so many less than in the table of docs/PERFORMANCE.md: for trying the bench out.
+    pub shallower: u8,
+}
+
+pub struct Group {
+    pub name: &'static str,
+    pub run: fn(Plan),
+}
+
+pub const GROUPS: [Group; 6] = [
+    Group {
+        name: "adding",
+        run: adding::run,
+    },
+    Group {
+        name: "combining",
+        run: combining::run,
+    },
+    Group {
+        name: "lookup",
+        run: lookup::run,
+    },
+    Group {
+        name: "rows",
+        run: rows::run,
+    },
+    Group {
+        name: "mombuild",
+        run: program::run,
+    },
+    Group {
+        name: "growth",
+        run: growth::run,
+    },
+];
