@@ -5,24 +5,20 @@ use mathlib.Core.Bool.{true, false, false≢true}
 use mathlib.Core.Logic.{_⊎_, inl, inr, ⊎-elim}
 use mathlib.Core.List.{List}
 use Prim.Native.Nat.{ℕ, _+_, _-_, _≤_, _<_}
+use native.Mathlib.Nat.{le-of-lt}
 use native.Mathlib.Omega.{arith}
 use lib.ListN.{length, getD, take, drop, length-take, length-drop}
-use Rattle.zuniq.specs.Cells.{start, end}
 use Rattle.zuniq.specs.Codec.{IsZuniqOf}
 use Rattle.zuniq.specs.declared.Cell.{Cell}
 use Rattle.zuniq.proofs.Basics.{is-false, le-or-lt}
-use Rattle.zuniq.proofs.Ranges.{start-lt-end, zuniq-is-start-plus-end}
+use Rattle.zuniq.proofs.Ranges.{start-lt-end}
 use Rattle.mom.specs.declared.lookup.Run.{Run}
 use Rattle.mom.specs.Map.{overlaps, ValidMap}
 use Rattle.mom.specs.Lookup.{overlapped, firstFrom}
 use Rattle.mom.specs.Search.{LowerBound, OverlapsBefore, OverlapsFrom}
-use Rattle.mom.proofs.Overlaps.{overlaps-cell, overlaps-iff-meets}
+use Rattle.mom.proofs.Overlaps.{overlaps-sym, overlaps-cell, overlaps-iff-meets, overlaps-iff-starts-before}
 use Rattle.mom.proofs.Valid.{valid-entry, ranges-rise}
 use Rattle.mom.proofs.Runs.{first-found, first-none, overlapped-part}
-
--- A zuniq is the sum of the two ends of its range.
-zuniq-sum : {K z d h : ℕ} → IsZuniqOf K z d h → z ≡ start K d h + end K d h
-zuniq-sum {K} {z} {d} {h} v = v .is ∙ zuniq-is-start-plus-end K d h
 
 -- The entries found on both sides of the place overlap the query, in any list.
 pub all-found : {K q place first last : ℕ} {zs : List ℕ} (c : Cell) → IsZuniqOf K q (c .depth) (c .hash)
@@ -36,22 +32,18 @@ module _ {K D q : ℕ} {zs : List ℕ} (v : ValidMap K D zs) (c : Cell) (w : IsZ
   overlaps-left i j l m b t =
       let x = valid-entry v i (omega arith) in
       let y = valid-entry v j m in
-      let p = overlaps-iff-meets w (x .is) .0 t in
-      let r = ranges-rise v i j l m (x .is) (y .is) in
       let s = start-lt-end K (y .depth) (y .hash) in
-      let u = start-lt-end K (c .depth) (c .hash) in
-      overlaps-iff-meets w (y .is) .1 (omega arith, omega (arith, zuniq-sum w, zuniq-sum (y .is)))
+      let r = ranges-rise v i j l m (x .is) (y .is) in
+      overlaps-sym K q (getD zs j 0) ∙ overlaps-iff-starts-before (y .is) w (le-of-lt b) .1 (omega (arith, overlaps-iff-meets w (x .is) .0 t))
 
   -- One that is not below the query overlaps it if one behind that does.
   overlaps-right : (i j : ℕ) → i < j → j < length zs → q ≤ getD zs i 0 → overlaps K q (getD zs j 0) ≡ true → overlaps K q (getD zs i 0) ≡ true
   overlaps-right i j l m b t =
       let x = valid-entry v i (omega arith) in
       let y = valid-entry v j m in
-      let p = overlaps-iff-meets w (y .is) .0 t in
-      let r = ranges-rise v i j l m (x .is) (y .is) in
       let s = start-lt-end K (x .depth) (x .hash) in
-      let u = start-lt-end K (c .depth) (c .hash) in
-      overlaps-iff-meets w (x .is) .1 (omega (arith, zuniq-sum w, zuniq-sum (x .is)), omega arith)
+      let r = ranges-rise v i j l m (x .is) (y .is) in
+      overlaps-iff-starts-before w (x .is) b .1 (omega (arith, overlaps-iff-meets w (y .is) .0 t))
 
   module _ {place : ℕ} (at : LowerBound zs q place) where
     -- The entries before the place are below the query, the others are not.

@@ -3,7 +3,8 @@
 use mathlib.Core.Path.{_≡_, refl, sym, _∙_}
 use mathlib.Core.Bool.{true, false, false≢true}
 use mathlib.Core.Logic.{_↔_}
-use Prim.Native.Nat.{ℕ, _/_, _-_, _^_, _≤_, _<_}
+use Prim.Native.Nat.{ℕ, _+_, _/_, _-_, _^_, _≤_, _<_}
+use native.Mathlib.Omega.{arith}
 use borrow.Author.Tests.{le-leb}
 use Rattle.zuniq.specs.Cells.{liesIn, overlap, start, end}
 use Rattle.zuniq.specs.Codec.{IsZuniqOf, decode, overlapTest, overlapOf}
@@ -11,7 +12,7 @@ use Rattle.zuniq.specs.declared.Cell.{Cell}
 use Rattle.zuniq.specs.declared.Decoded.{Decoded}
 use Rattle.zuniq.proofs.Basics.{eqb-sym}
 use Rattle.zuniq.proofs.Codec.{cell, zuniq-injective, decodes}
-use Rattle.zuniq.proofs.Ranges.{overlap-sym, overlap-ancestor, lies-in-within, overlap-iff-meets, end-le-start-iff-zuniq-lt}
+use Rattle.zuniq.proofs.Ranges.{start-lt-end, zuniq-is-start-plus-end, overlap-sym, overlap-ancestor, lies-in-within, overlap-iff-meets, end-le-start-iff-zuniq-lt}
 use Rattle.mom.specs.Map.{IsZuniq, isYes, overlaps}
 use Rattle.mom.specs.Lookup.{cellLiesIn, contains}
 use Rattle.mom.specs.Search.{cellOverlapsCell, cellOverlaps}
@@ -66,6 +67,10 @@ module _ {K : ℕ} where
       go (Decoded.Cell e) = refl
       go Decoded.Nothing = refl
 
+  -- A zuniq is the sum of the two ends of its range.
+  pub zuniq-sum : {z d h : ℕ} → IsZuniqOf K z d h → z ≡ start K d h + end K d h
+  zuniq-sum {z} {d} {h} v = v .is ∙ zuniq-is-start-plus-end K d h
+
   module _ {y z d h e g : ℕ} (v : IsZuniqOf K y d h) (w : IsZuniqOf K z e g) where
     -- Two zuniqs overlap as their cells do.
     pub overlaps-cells : overlaps K y z ≡ overlap d h e g
@@ -80,6 +85,13 @@ module _ {K : ℕ} where
     -- Two zuniqs overlap exactly if their ranges meet.
     pub overlaps-iff-meets : (overlaps K y z ≡ true) ↔ ((start K d h < end K e g) × (start K e g < end K d h))
     overlaps-iff-meets = rw overlaps-cells (overlap-iff-meets K d h e g (v .deep) (w .deep))
+
+    -- Of two in order the second overlaps the first exactly if it starts before that ends.
+    pub overlaps-iff-starts-before : y ≤ z → (overlaps K y z ≡ true) ↔ (start K e g < end K d h)
+    overlaps-iff-starts-before l =
+        let p = start-lt-end K d h in
+        let q = start-lt-end K e g in
+        (λ t. overlaps-iff-meets .0 t .1, λ u. overlaps-iff-meets .1 (omega (arith, zuniq-sum v, zuniq-sum w), u))
 
     -- One ends where the other starts, or before, exactly if it is smaller and the two do not overlap.
     pub end-le-start-iff-above : (end K d h ≤ start K e g) ↔ ((y < z) × (overlaps K y z ≡ false))

@@ -1,3 +1,4 @@
 pub mod Map
+pub mod Range
 pub mod Lookup
 pub mod Search

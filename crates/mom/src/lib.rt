@@ -6,7 +6,10 @@
 //
 // Refused: a depth over 29 (number 1).
 ghost use mathlib.Core.Path.{_≡_};
+ghost use Rattle.zuniq.specs.Codec.{IsZuniqOf};
 ghost use Rattle.mom.specs.Map.{firstFault, mapCheck};
+ghost use Rattle.mom.specs.Range.{IsRangeOf};
+use zuniq::Cell;
 use zuniq::Decoded;
 use zuniq::Zuniq64;
 use zuniq::refusal::Refusal;
@@ -29,6 +32,13 @@ pub enum FirstFault {
     At(usize, Fault),
 }
 
+// The range of a cell, in zuniqs: those of the cells that lie in it are between the two, and its own
+// is in the middle. Each is twice the hash, at the largest depth, at which the cell starts or ends.
+pub(crate) struct ZuniqRange {
+    pub start: u64,
+    pub end: u64,
+}
+
 // What the check answers.
 pub enum MapCheck {
     Valid,
@@ -49,14 +59,14 @@ pub fn check_is_mom(depth: u8, zuniqs: &[u64]) -> MapCheck
 }
 
 // The check without its refusal, for the calls that hold a map and have tried its depth. Entries
-// that rise and do not overlap their neighbours overlap no other entry either, so one pass does;
-// the cell before is carried along, so that each zuniq is decoded once.
+// that rise and do not overlap their neighbours overlap no other entry either, so one pass does.
+// An entry is above the one before and does not overlap it exactly if it starts where that ends, or
+// after: one comparison, whose failure has two reasons. Before the first entry the sky starts, at 0.
 pub fn first_fault(depth: u8, zuniqs: &[u64]) -> FirstFault
     ensures { λ r. ⌜ r ≡ firstFault 29 depth (now (zuniqs .entry)) ⌝ }
 {
     let mut zuniq_before = 0;
-    let mut depth_before = 0;
-    let mut hash_before = 0;
+    let mut end_before = 0;
     let mut i = 0;
     while i < zuniqs.len() {
         let zuniq = zuniqs[i];
@@ -66,18 +76,28 @@ pub fn first_fault(depth: u8, zuniqs: &[u64]) -> FirstFault
         if cell.depth > depth {
             return FirstFault::At(i, Fault::TooDeep);
         }
-        if i > 0 {
+        let range = range_of(zuniq, cell);
+        if range.start < end_before {
             if zuniq <= zuniq_before {
                 return FirstFault::At(i, Fault::NotAbove);
             }
-            if Zuniq64::are_overlapping_cells(depth_before, hash_before, cell.depth, cell.hash) {
-                return FirstFault::At(i, Fault::Overlapping);
-            }
+            return FirstFault::At(i, Fault::Overlapping);
         }
         zuniq_before = zuniq;
-        depth_before = cell.depth;
-        hash_before = cell.hash;
+        end_before = range.end;
         i += 1;
     }
     FirstFault::Nothing
+}
+
+// The range of a cell whose zuniq is at hand.
+pub(crate) fn range_of(zuniq: u64, cell: Cell) -> ZuniqRange
+    requires { ⌜ IsZuniqOf 29 «zuniq» (cell .depth) (cell .hash) ⌝ }
+    ensures { λ r. ⌜ IsRangeOf 29 cell r ⌝ }
+{
+    let half = 1 << (Zuniq64::DIM * (Zuniq64::MAX_DEPTH - cell.depth));
+    ZuniqRange {
+        start: zuniq - half,
+        end: zuniq + half,
+    }
 }

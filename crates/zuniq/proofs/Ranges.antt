@@ -129,6 +129,11 @@ module _ (K : ℕ) where
   unfolding start end zuniq
   zuniq-is-start-plus-end d h = omega arith
 
+  -- It is the middle between twice the one and twice the other.
+  pub zuniq-is-middle : (d h : ℕ) → (2 * start K d h + 4 ^ (K - d) ≡ zuniq K d h) × (zuniq K d h + 4 ^ (K - d) ≡ 2 * end K d h)
+  unfolding start end zuniq
+  zuniq-is-middle d h = (omega arith, omega arith)
+
   -- A cell ends where the next of its depth starts.
   pub end-is-next-start : (d h : ℕ) → end K d h ≡ start K d (suc h)
   unfolding start end

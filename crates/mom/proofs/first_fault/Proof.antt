@@ -1,22 +1,20 @@
 -- `first_fault` meets its contract. The invariant of its loop: the entries before `i` have no fault, and the one before `i`
--- is carried along with its cell. The measure is what is left of the length. Assumes nothing.
+-- is carried along with its end. The measure is what is left of the length. Assumes nothing.
 use mathlib.Core.Path.{sym, _∙_}
-use mathlib.Core.Logic.{⊎-elim}
 use Prim.Native.Nat.{_-_}
 use native.Mathlib.Omega.{arith}
 use lib.ListN.{length}
 use borrow.Author.Needs.{needs}
 use Rattle.zuniq.proofs.Codec.{decodes}
-use Rattle.mom.proofs.Passed.{Passed, passed-none, carried-deep, passed-all, not-zuniq-here, too-deep-here, not-above-here, overlapping-here, first-passed, passed-on}
+use Rattle.mom.proofs.Passed.{Passed, passed-none, passed-all, not-zuniq-here, too-deep-here, not-above-here, overlapping-here, passed-on}
 use Rattle.mom.proofs.first_fault.Statement.{statement}
 use Rattle.mom.proofs.first_fault.Tie as tie
 
 abbrev Inv-loop : tie.InvT-loop
-Inv-loop depth zuniqs zuniq-before₀ depth-before₀ hash-before₀ i₀ zuniq-before depth-before hash-before i =
-    Passed 29 depth zuniqs zuniq-before depth-before hash-before i
+Inv-loop depth zuniqs zuniq-before₀ end-before₀ i₀ zuniq-before end-before i = Passed 29 depth zuniqs zuniq-before end-before i
 
 abbrev μ-loop : tie.MeasureT-loop
-μ-loop depth zuniqs zuniq-before₀ depth-before₀ hash-before₀ i₀ zuniq-before depth-before hash-before i = length zuniqs - i
+μ-loop depth zuniqs zuniq-before₀ end-before₀ i₀ zuniq-before end-before i = length zuniqs - i
 
 loop-holds : tie.Need-loop-holds Inv-loop μ-loop
 loop-holds c = passed-none
@@ -47,25 +45,26 @@ returns-2 c =
     let turn = entry .before .before .before .before in
     sym (too-deep-here (turn .before .loop .inv) (omega (arith, turn .loop-test .taken)) (sym (entry .before .before .from-zuniq .ensures) ∙ entry .cell .given .1) (omega (arith, c .if1 .taken)))
 
+range-of-requires : tie.Need-range-of-requires Inv-loop μ-loop
+range-of-requires c κs =
+    let entry = c .before .before .before in
+    decodes 29 _ _ .0 (sym (entry .before .before .from-zuniq .ensures) ∙ entry .cell .given .1)
+
 returns-3 : tie.Need-returns-3 Inv-loop μ-loop
 returns-3 c =
-    let entry = c .before .before .before .before .before in
+    let range = c .before .before .before in
+    let entry = range .before .before .before .before in
     let turn = entry .before .before .before .before in
     sym (not-above-here (turn .before .loop .inv) (omega (arith, turn .loop-test .taken)) (sym (entry .before .before .from-zuniq .ensures) ∙ entry .cell .given .1)
-    (omega (arith, c .before .before .if1 .left)) (c .before .if2 .taken) (omega (arith, c .if3 .taken)))
-
-are-overlapping-cells-requires : tie.Need-are-overlapping-cells-requires Inv-loop μ-loop
-are-overlapping-cells-requires c κs =
-    let entry = c .before .before .before .before .before in
-    let turn = entry .before .before .before .before in
-    (omega (arith, carried-deep (turn .before .loop .inv) (c .before .if2 .taken)), decodes 29 _ _ .0 (sym (entry .before .before .from-zuniq .ensures) ∙ entry .cell .given .1) .deep)
+    (omega (arith, range .before .if1 .left)) (range .range-of .ensures) (c .before .if2 .taken) (omega (arith, c .if3 .taken)))
 
 returns-4 : tie.Need-returns-4 Inv-loop μ-loop
 returns-4 c =
-    let entry = c .before .before .before .before .before .before .before in
+    let range = c .before .before .before in
+    let entry = range .before .before .before .before in
     let turn = entry .before .before .before .before in
     sym (overlapping-here (turn .before .loop .inv) (omega (arith, turn .loop-test .taken)) (sym (entry .before .before .from-zuniq .ensures) ∙ entry .cell .given .1)
-    (omega (arith, c .before .before .before .before .if1 .left)) (c .before .before .before .if2 .taken) (omega (arith, c .before .before .if3 .left)) (sym (c .before .are-overlapping-cells .ensures) ∙ c .if4 .taken))
+    (omega (arith, range .before .if1 .left)) (range .range-of .ensures) (c .before .if2 .taken) (omega (arith, c .if3 .left)))
 
 add-i : tie.Need-add-i Inv-loop μ-loop
 add-i c = search needs
@@ -75,13 +74,11 @@ loop-less c = search needs
 
 loop-again : tie.Need-loop-again Inv-loop μ-loop
 loop-again c =
-    let entry = c .before .before .before .before in
+    let range = c .before .before in
+    let entry = range .before .before .before .before in
     let turn = entry .before .before .before .before in
-    let passed = turn .before .loop .inv in
-    let decoded = sym (entry .before .before .from-zuniq .ensures) ∙ entry .cell .given .1 in
-    ⊎-elim
-    (λ w. passed-on passed (omega (arith, turn .loop-test .taken)) decoded (omega (arith, c .before .if1 .left)) (w .0 .taken) (omega (arith, w .1 .left)) (sym (w .2 .ensures) ∙ w .3 .left))
-    (λ w. first-passed passed (omega (arith, turn .loop-test .taken)) decoded (omega (arith, c .before .if1 .left)) (w .left)) (c .if2 .came)
+    passed-on (turn .before .loop .inv) (omega (arith, turn .loop-test .taken)) (sym (entry .before .before .from-zuniq .ensures) ∙ entry .cell .given .1)
+    (omega (arith, range .before .if1 .left)) (range .range-of .ensures) (c .if2 .left)
 
 returns-5 : tie.Need-returns-5 Inv-loop μ-loop
 returns-5 c = sym (passed-all (c .before .loop .inv) (omega (arith, c .loop-test .left)))
@@ -100,8 +97,8 @@ first-fault-spec =
     enum-told
     returns
     returns-2
+    range-of-requires
     returns-3
-    are-overlapping-cells-requires
     returns-4
     add-i
     loop-less
