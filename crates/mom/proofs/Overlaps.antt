@@ -1,20 +1,23 @@
 -- Zuniqs that overlap, and that contain one another, told by their cells and their ranges. Over any largest depth K.
 -- Assumes nothing.
 use mathlib.Core.Path.{_≡_, refl, sym, _∙_}
-use mathlib.Core.Bool.{true, false, false≢true}
+use mathlib.Core.Bool.{Bool, true, false, _&&_, false≢true}
 use mathlib.Core.Logic.{_↔_}
 use Prim.Native.Nat.{ℕ, _+_, _/_, _-_, _^_, _≤_, _<_}
 use native.Mathlib.Omega.{arith}
-use borrow.Author.Tests.{le-leb}
+use lib.Dec.{ltb}
+use borrow.Author.Tests.{le-leb, ltb-true, ltb-false}
 use Rattle.zuniq.specs.Cells.{liesIn, overlap, start, end}
 use Rattle.zuniq.specs.Codec.{IsZuniqOf, decode, overlapTest, overlapOf}
 use Rattle.zuniq.specs.declared.Cell.{Cell}
 use Rattle.zuniq.specs.declared.Decoded.{Decoded}
-use Rattle.zuniq.proofs.Basics.{eqb-sym}
+use Rattle.zuniq.proofs.Basics.{is-false, eqb-sym}
 use Rattle.zuniq.proofs.Codec.{cell, zuniq-injective, decodes}
 use Rattle.zuniq.proofs.Ranges.{start-lt-end, zuniq-is-start-plus-end, overlap-sym, overlap-ancestor, lies-in-within, overlap-iff-meets, end-le-start-iff-zuniq-lt}
+use Rattle.mom.specs.declared.ZuniqRange.{ZuniqRange}
 use Rattle.mom.specs.Map.{IsZuniq, isYes, overlaps}
 use Rattle.mom.specs.Lookup.{cellLiesIn, contains}
+use Rattle.mom.specs.Range.{IsRangeOf}
 use Rattle.mom.specs.Search.{cellOverlapsCell, cellOverlaps}
 
 -- A cell overlaps one that is no deeper exactly if it lies in it.
@@ -104,3 +107,20 @@ module _ {K : ℕ} where
     -- A zuniq is contained in those that it overlaps and that are no deeper.
     pub contains-shallower : e ≤ d → contains K y z ≡ overlaps K y z
     contains-shallower l = rw (contains-cells, overlaps-cells) (sym (overlap-shallower d h e g l))
+
+  module _ {c e : Cell} {q r : ZuniqRange} (a : IsRangeOf K c q) (b : IsRangeOf K e r) where
+    -- Two cells overlap exactly if each starts before the other ends.
+    overlap-iff-ranges-meet : (overlap (c .depth) (c .hash) (e .depth) (e .hash) ≡ true) ↔ ((q .start < r .end) × (r .start < q .end))
+    overlap-iff-ranges-meet =
+        let m = overlap-iff-meets K (c .depth) (c .hash) (e .depth) (e .hash) (a .deep) (b .deep) in
+        rw (a .starts, a .ends, b .starts, b .ends) (λ t. omega (arith, m .0 t), λ p. m .1 (omega arith))
+
+    -- So whether a cell overlaps a zuniq is told by two tests of their ranges.
+    pub cell-overlaps-ranges : (z : ℕ) → decode K z ≡ Decoded.Cell e → cellOverlaps K c z ≡ (ltb (q .start) (r .end) && ltb (r .start) (q .end))
+    unfolding cellOverlaps cellOverlapsCell
+    cell-overlaps-ranges z i = rw i (go (ltb (q .start) (r .end)) refl (ltb (r .start) (q .end)) refl)
+      where
+        go : (s : Bool) → ltb (q .start) (r .end) ≡ s → (t : Bool) → ltb (r .start) (q .end) ≡ t → overlap (c .depth) (c .hash) (e .depth) (e .hash) ≡ (s && t)
+        go true k true l = overlap-iff-ranges-meet .1 (ltb-true _ _ k, ltb-true _ _ l)
+        go true k false l = is-false _ (λ o. omega (arith, overlap-iff-ranges-meet .0 o, ltb-false))
+        go false k t l = is-false _ (λ o. omega (arith, overlap-iff-ranges-meet .0 o, ltb-false))

@@ -10,9 +10,12 @@
 ghost use mathlib.Core.Path.{_≡_};
 ghost use Prim.Native.Nat.{_≤_};
 ghost use lib.ListN.{length};
+ghost use Rattle.zuniq.specs.declared.Cell.{Cell};
 ghost use Rattle.mom.specs.Lookup.{IsWithin, IsPart, ContainingAnswer, RunAnswer, OverlappedAnswer};
+ghost use Rattle.mom.specs.Range.{IsRangeOf};
 ghost use Rattle.mom.specs.Search.{cellOverlaps, LowerBound, OverlapsBefore, OverlapsFrom};
-use zuniq::Cell;
+use crate::ZuniqRange;
+use crate::range_of;
 use zuniq::Decoded;
 use zuniq::Zuniq64;
 use zuniq::refusal::Refusal;
@@ -52,13 +55,14 @@ pub fn get_cell_containing(depth: u8, zuniqs: &[u64], zuniq: u64) -> Containing
     }
     // Of the entries below the query only the last can contain it, of the others only the first.
     let place = lower_bound(zuniqs, zuniq);
+    let range = range_of(zuniq, query);
     if place < zuniqs.len() {
-        if is_overlapped(query, zuniqs[place]) {
+        if is_overlapped(range, zuniqs[place]) {
             return Containing::At(place);
         }
     }
     if place > 0 {
-        if is_overlapped(query, zuniqs[place - 1]) {
+        if is_overlapped(range, zuniqs[place - 1]) {
             return Containing::At(place - 1);
         }
     }
@@ -83,8 +87,9 @@ pub fn get_overlapped_run(zuniqs: &[u64], zuniq: u64) -> Run
     };
     // The run stands around this place: what it has below the query before it, the others from it on.
     let place = lower_bound(zuniqs, zuniq);
-    let first = run_start(zuniqs, query, place);
-    let end = run_end(zuniqs, query, place);
+    let range = range_of(zuniq, query);
+    let first = run_start(zuniqs, range, place);
+    let end = run_end(zuniqs, range, place);
     if first < end {
         return Run::Entries {
             first,
@@ -108,15 +113,16 @@ fn run_part(zuniqs: &[u64], run: Run) -> &[u64]
     }
 }
 
-// Whether an entry is a valid zuniq that overlaps the query.
-fn is_overlapped(query: Cell, zuniq: u64) -> bool
-    requires { ⌜ query .depth ≤ 29 ⌝ }
-    ensures { λ r. ⌜ r ≡ cellOverlaps 29 query «zuniq» ⌝ }
+// Whether an entry is a valid zuniq that overlaps the query: then each starts before the other ends.
+// Over an invalid map an entry may stand on the wrong side of the query, so both are tried.
+fn is_overlapped(query: ZuniqRange, zuniq: u64) -> bool
+    ensures { λ r. ⌜ ((c : Cell) → IsRangeOf 29 c query → r ≡ cellOverlaps 29 c «zuniq») ⌝ }
 {
     let Decoded::Cell(cell) = Zuniq64::from_zuniq(zuniq) else {
         return false;
     };
-    Zuniq64::are_overlapping_cells(query.depth, query.hash, cell.depth, cell.hash)
+    let range = range_of(zuniq, cell);
+    query.start < range.end && range.start < query.end
 }
 
 // A place between an entry below the query and one that is not: where the zuniqs rise, the number
@@ -138,9 +144,9 @@ fn lower_bound(zuniqs: &[u64], zuniq: u64) -> usize
 }
 
 // The first of the entries before a place that overlap the query without a gap.
-fn run_start(zuniqs: &[u64], query: Cell, place: usize) -> usize
-    requires { ⌜ (query .depth ≤ 29) × (place ≤ length (now zuniqs)) ⌝ }
-    ensures { λ r. ⌜ OverlapsBefore 29 (now (zuniqs .entry)) query place r ⌝ }
+fn run_start(zuniqs: &[u64], query: ZuniqRange, place: usize) -> usize
+    requires { ⌜ place ≤ length (now zuniqs) ⌝ }
+    ensures { λ r. ⌜ ((c : Cell) → IsRangeOf 29 c query → OverlapsBefore 29 (now (zuniqs .entry)) c place r) ⌝ }
 {
     let mut first = place;
     while first > 0 {
@@ -153,9 +159,9 @@ fn run_start(zuniqs: &[u64], query: Cell, place: usize) -> usize
 }
 
 // The end of the entries from a place on that overlap the query without a gap.
-fn run_end(zuniqs: &[u64], query: Cell, place: usize) -> usize
-    requires { ⌜ (query .depth ≤ 29) × (place ≤ length (now zuniqs)) ⌝ }
-    ensures { λ r. ⌜ OverlapsFrom 29 (now (zuniqs .entry)) query place r ⌝ }
+fn run_end(zuniqs: &[u64], query: ZuniqRange, place: usize) -> usize
+    requires { ⌜ place ≤ length (now zuniqs) ⌝ }
+    ensures { λ r. ⌜ ((c : Cell) → IsRangeOf 29 c query → OverlapsFrom 29 (now (zuniqs .entry)) c place r) ⌝ }
 {
     let mut end = place;
     while end < zuniqs.len() {

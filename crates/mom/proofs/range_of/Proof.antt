@@ -11,14 +11,14 @@ use Rattle.zuniq.proofs.Ranges.{zuniq-is-middle, valid-iff-end-le}
 use Rattle.mom.proofs.range_of.Statement.{statement}
 use Rattle.mom.proofs.range_of.Tie as tie
 
--- the range around a zuniq, with half its width as the shift computes it
-record Around (z d h half : ℕ) : Type 0 where
+-- `half` is half the width of the range, and that does not end past the sky; the shift gives it
+record IsHalfWidth (z d h half : ℕ) : Type 0 where
   starts : 2 * start 29 d h + half ≡ z
   ends : z + half ≡ 2 * end 29 d h
   in-sky : 2 * end 29 d h ≤ 2 * nHash 29
 
-around : {z d h : ℕ} → IsZuniqOf 29 z d h → Around z d h (1 * 2 ^ (2 * (29 - d)) % 2 ^ 64)
-around {z} {d} {h} v =
+half-width : {z d h : ℕ} → IsZuniqOf 29 z d h → IsHalfWidth z d h (1 * 2 ^ (2 * (29 - d)) % 2 ^ 64)
+half-width {z} {d} {h} v =
     let p : 2 ^ (2 * (29 - d)) ≤ 2 ^ 58 = pow-mono {j = 58} (omega arith) in
     let half : 1 * 2 ^ (2 * (29 - d)) % 2 ^ 64 ≡ 4 ^ (29 - d) = rw (four-pow-two (29 - d)) (omega arith) in
     let middle = zuniq-is-middle 29 d h in
@@ -37,14 +37,14 @@ shl-half : tie.Need-shl-half
 shl-half c = search needs
 
 sub-t6 : tie.Need-sub-t6
-sub-t6 c = omega (arith, around (c .before .pre))
+sub-t6 c = omega (arith, half-width (c .before .pre))
 
 add-t7 : tie.Need-add-t7
 unfolding nHash
-add-t7 c = omega (arith, around (c .before .pre))
+add-t7 c = omega (arith, half-width (c .before .pre))
 
 returns : tie.Need-returns
-returns c = let a = around (c .before .pre) in record { starts = omega (arith, a .starts); ends = a .ends }
+returns c = let a = half-width (c .before .pre) in record { deep = c .before .pre .deep; starts = omega (arith, a .starts); ends = a .ends }
 
 pub range-of-spec : {M : Type 1} → statement M
 range-of-spec = tie.close (tie.spec sub-half mul-half cast-half shl-half sub-t6 add-t7 returns)

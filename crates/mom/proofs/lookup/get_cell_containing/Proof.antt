@@ -31,6 +31,11 @@ returns-3 c =
 lower-bound-requires : tie.Need-lower-bound-requires
 lower-bound-requires c κs = search needs
 
+range-of-requires : tie.Need-range-of-requires
+range-of-requires c κs =
+    let query = c .before .before .before .before in
+    decodes 29 _ _ .0 (sym (query .before .before .from-zuniq .ensures) ∙ query .query .given .1)
+
 mul-is-overlapped : tie.Need-mul-is-overlapped
 mul-is-overlapped c = search needs
 
@@ -38,15 +43,14 @@ shared-slice-read-is-overlapped : tie.Need-shared-slice-read-is-overlapped
 shared-slice-read-is-overlapped c = search needs
 
 is-overlapped-requires : tie.Need-is-overlapped-requires
-is-overlapped-requires c κs =
-    let query = c .before .before .before .before .before .before in
-    decodes 29 _ _ .0 (sym (query .before .before .from-zuniq .ensures) ∙ query .query .given .1) .deep
+is-overlapped-requires c κs = search needs
 
 returns-4 : tie.Need-returns-4
 returns-4 c =
-    let query = c .before .before .before .before .before .before .before .before in
+    let range = c .before .before .before .before in
+    let query = range .before .before .before .before .before in
     at-answer (query .before .before .before .if1 .left) (sym (query .before .before .from-zuniq .ensures) ∙ query .query .given .1)
-    (omega (arith, c .before .before .before .before .before .if2 .left)) (c .before .before .before .if3 .taken) (sym (c .before .is-overlapped .ensures) ∙ c .if4 .taken)
+    (omega (arith, range .before .before .if2 .left)) (c .before .before .before .if3 .taken) (sym (c .before .is-overlapped .ensures _ (range .range-of .ensures)) ∙ c .if4 .taken)
 
 sub-is-overlapped : tie.Need-sub-is-overlapped
 sub-is-overlapped c = search needs
@@ -55,34 +59,32 @@ mul-is-overlapped-2 : tie.Need-mul-is-overlapped-2
 mul-is-overlapped-2 c = search needs
 
 shared-slice-read-is-overlapped-2 : tie.Need-shared-slice-read-is-overlapped-2
-shared-slice-read-is-overlapped-2 c = omega (arith, c .before .before .before .lower-bound .ensures .within)
+shared-slice-read-is-overlapped-2 c = search needs
 
 is-overlapped-requires-2 : tie.Need-is-overlapped-requires-2
-is-overlapped-requires-2 c κs =
-    let query = c .before .before .before .before .before .before .before in
-    decodes 29 _ _ .0 (sym (query .before .before .from-zuniq .ensures) ∙ query .query .given .1) .deep
+is-overlapped-requires-2 c κs = search needs
 
-sub-t21 : tie.Need-sub-t21
-sub-t21 c = search needs
+sub-t22 : tie.Need-sub-t22
+sub-t22 c = search needs
 
 returns-5 : tie.Need-returns-5
 returns-5 c =
-    let place = c .before .before .before .before .before in
-    let query = place .before .before .before .before in
+    let range = c .before .before .before .before .before in
+    let query = range .before .before .before .before .before in
     at-answer (query .before .before .before .if1 .left) (sym (query .before .before .from-zuniq .ensures) ∙ query .query .given .1)
-    (omega (arith, place .before .if2 .left)) (omega (arith, place .lower-bound .ensures .within)) (sym (c .before .is-overlapped2 .ensures) ∙ c .if6 .taken)
+    (omega (arith, range .before .before .if2 .left)) (omega (arith, range .before .lower-bound .ensures .within)) (sym (c .before .is-overlapped2 .ensures _ (range .range-of .ensures)) ∙ c .if6 .taken)
 
 returns-6 : tie.Need-returns-6
 returns-6 c =
-    nothing-answer (c .before .before .before .before .before .before .before .before .before .before .before .before .if1 .left) (sym (c .before .before .before .before .before .before .before .before .before .before .before .from-zuniq .ensures) ∙ c .before .before .before .before .before .before .before .before .before .query .given .1)
-    (omega (arith, c .before .before .before .before .before .before .if2 .left)) (c .before .before .before .before .before .lower-bound .ensures) (λ _. sym (c .before .is-overlapped2 .ensures) ∙ c .if6 .left)
-    (λ l. ⊎-elim (λ w. sym (w .2 .ensures) ∙ w .3 .left) (λ w. absurd (omega arith)) (c .before .before .before .before .if3 .came))
+    nothing-answer (c .before .before .before .before .before .before .before .before .before .before .before .before .before .if1 .left) (sym (c .before .before .before .before .before .before .before .before .before .before .before .before .from-zuniq .ensures) ∙ c .before .before .before .before .before .before .before .before .before .before .query .given .1)
+    (omega (arith, c .before .before .before .before .before .before .before .if2 .left)) (c .before .before .before .before .before .before .lower-bound .ensures) (λ _. sym (c .before .is-overlapped2 .ensures _ (c .before .before .before .before .before .range-of .ensures)) ∙ c .if6 .left)
+    (λ l. ⊎-elim (λ w. sym (w .2 .ensures _ (c .before .before .before .before .before .range-of .ensures)) ∙ w .3 .left) (λ w. absurd (omega arith)) (c .before .before .before .before .if3 .came))
 
 returns-7 : tie.Need-returns-7
 returns-7 c =
-    nothing-answer (c .before .before .before .before .before .before .before .before .before .if1 .left) (sym (c .before .before .before .before .before .before .before .before .from-zuniq .ensures) ∙ c .before .before .before .before .before .before .query .given .1)
-    (omega (arith, c .before .before .before .if2 .left)) (c .before .before .lower-bound .ensures) (λ l. absurd (omega arith))
-    (λ l. ⊎-elim (λ w. sym (w .2 .ensures) ∙ w .3 .left) (λ w. absurd (omega arith)) (c .before .if3 .came))
+    nothing-answer (c .before .before .before .before .before .before .before .before .before .before .if1 .left) (sym (c .before .before .before .before .before .before .before .before .before .from-zuniq .ensures) ∙ c .before .before .before .before .before .before .before .query .given .1)
+    (omega (arith, c .before .before .before .before .if2 .left)) (c .before .before .before .lower-bound .ensures) (λ l. absurd (omega arith))
+    (λ l. ⊎-elim (λ w. sym (w .2 .ensures _ (c .before .before .range-of .ensures)) ∙ w .3 .left) (λ w. absurd (omega arith)) (c .before .if3 .came))
 
 pub get-cell-containing-spec : {M : Type 1} → statement M
 get-cell-containing-spec =
@@ -95,6 +97,7 @@ get-cell-containing-spec =
     returns-2
     returns-3
     lower-bound-requires
+    range-of-requires
     mul-is-overlapped
     shared-slice-read-is-overlapped
     is-overlapped-requires
@@ -103,7 +106,7 @@ get-cell-containing-spec =
     mul-is-overlapped-2
     shared-slice-read-is-overlapped-2
     is-overlapped-requires-2
-    sub-t21
+    sub-t22
     returns-5
     returns-6
     returns-7)

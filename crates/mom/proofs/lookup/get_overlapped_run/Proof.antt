@@ -21,30 +21,33 @@ returns c = run-refused (sym (c .before .before .from-zuniq .ensures) ∙ c .enu
 lower-bound-requires : tie.Need-lower-bound-requires
 lower-bound-requires c κs = search needs
 
-run-start-requires : tie.Need-run-start-requires
-run-start-requires c κs =
+range-of-requires : tie.Need-range-of-requires
+range-of-requires c κs =
     let query = c .before .before in
-    (decodes 29 _ _ .0 (sym (query .before .before .from-zuniq .ensures) ∙ query .query .given .1) .deep, c .lower-bound .ensures .within)
+    decodes 29 _ _ .0 (sym (query .before .before .from-zuniq .ensures) ∙ query .query .given .1)
+
+run-start-requires : tie.Need-run-start-requires
+run-start-requires c κs = search needs
 
 run-end-requires : tie.Need-run-end-requires
-run-end-requires c κs =
-    let query = c .before .before .before in
-    (decodes 29 _ _ .0 (sym (query .before .before .from-zuniq .ensures) ∙ query .query .given .1) .deep, c .before .lower-bound .ensures .within)
+run-end-requires c κs = search needs
 
-sub-t10 : tie.Need-sub-t10
-sub-t10 c = search needs
+sub-t11 : tie.Need-sub-t11
+sub-t11 c = search needs
 
 returns-2 : tie.Need-returns-2
 returns-2 c =
-    let query = c .before .before .before .before .before in
+    let range = c .before .before .before in
+    let query = range .before .before .before in
     run-answer (sym (query .before .before .from-zuniq .ensures) ∙ query .query .given .1)
-    (c .before .before .before .lower-bound .ensures) (c .before .before .run-start .ensures) (c .before .run-end .ensures) (c .if1 .taken)
+    (range .before .lower-bound .ensures) (c .before .before .run-start .ensures _ (range .range-of .ensures)) (c .before .run-end .ensures _ (range .range-of .ensures)) (c .if1 .taken)
 
 returns-3 : tie.Need-returns-3
 returns-3 c =
-    let query = c .before .before .before .before .before in
+    let range = c .before .before .before in
+    let query = range .before .before .before in
     empty-answer (sym (query .before .before .from-zuniq .ensures) ∙ query .query .given .1)
-    (c .before .before .before .lower-bound .ensures) (c .before .before .run-start .ensures) (c .before .run-end .ensures) (c .if1 .left)
+    (range .before .lower-bound .ensures) (c .before .before .run-start .ensures _ (range .range-of .ensures)) (c .before .run-end .ensures _ (range .range-of .ensures)) (c .if1 .left)
 
 pub get-overlapped-run-spec : {M : Type 1} → statement M
 get-overlapped-run-spec =
@@ -55,8 +58,9 @@ get-overlapped-run-spec =
     enum-told
     returns
     lower-bound-requires
+    range-of-requires
     run-start-requires
     run-end-requires
-    sub-t10
+    sub-t11
     returns-2
     returns-3)

@@ -1,8 +1,10 @@
 -- `lookup::is_overlapped` meets its contract. Assumes nothing.
 use mathlib.Core.Path.{refl, sym, _∙_}
 use borrow.Author.Needs.{needs}
+use borrow.Author.Tests.{lt-ltb, le-ltb}
 use Rattle.zuniq.proofs.Codec.{decodes}
 use Rattle.mom.specs.Search.{cellOverlaps, cellOverlapsCell}
+use Rattle.mom.proofs.Overlaps.{cell-overlaps-ranges}
 use Rattle.mom.proofs.lookup.is_overlapped.Statement.{statement}
 use Rattle.mom.proofs.lookup.is_overlapped.Tie as tie
 
@@ -17,14 +19,24 @@ enum-told c = search needs
 
 returns : tie.Need-returns
 unfolding cellOverlaps cellOverlapsCell
-returns c = rw (← c .before .before .from-zuniq .ensures, c .enum-told .given .1) refl
+returns c query is = rw (← c .before .before .from-zuniq .ensures, c .enum-told .given .1) refl
 
-are-overlapping-cells-requires : tie.Need-are-overlapping-cells-requires
-are-overlapping-cells-requires c κs = (c .before .before .before .before .pre, decodes 29 _ _ .0 (sym (c .before .before .before .from-zuniq .ensures) ∙ c .before .cell .given .1) .deep)
+range-of-requires : tie.Need-range-of-requires
+range-of-requires c κs = decodes 29 _ _ .0 (sym (c .before .before .before .from-zuniq .ensures) ∙ c .before .cell .given .1)
 
 returns-2 : tie.Need-returns-2
-unfolding cellOverlaps cellOverlapsCell
-returns-2 c = rw (← c .before .before .before .before .from-zuniq .ensures, c .before .before .cell .given .1) (c .are-overlapping-cells .ensures)
+returns-2 c query is =
+    let range = c .before .before .before .before .before in
+    let entry = range .before .before in
+    let law = cell-overlaps-ranges is (range .range-of .ensures) _ (sym (entry .before .before .from-zuniq .ensures) ∙ entry .cell .given .1) in
+    rw (law, lt-ltb _ _ (c .before .before .if1 .taken)) refl
+
+returns-3 : tie.Need-returns-3
+returns-3 c query is =
+    let range = c .before .before .before in
+    let entry = range .before .before in
+    let law = cell-overlaps-ranges is (range .range-of .ensures) _ (sym (entry .before .before .from-zuniq .ensures) ∙ entry .cell .given .1) in
+    rw (law, le-ltb _ _ (c .if1 .left)) refl
 
 pub is-overlapped-spec : {M : Type 1} → statement M
 is-overlapped-spec =
@@ -34,5 +46,6 @@ is-overlapped-spec =
     enum-known-cell
     enum-told
     returns
-    are-overlapping-cells-requires
-    returns-2)
+    range-of-requires
+    returns-2
+    returns-3)
