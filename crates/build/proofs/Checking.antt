@@ -11,7 +11,7 @@ use lib.Dec.{eqb, leb, ltb}
 use lib.Ieee.{Float}
 use lib.ListN.{length, getD, drop, drop-of-length-le}
 use lib.Seq.{drop-cons}
-use borrow.Author.Tests.{leb-false, ltb-false, lt-ltb, eqb-true, eqb-false, not-false}
+use borrow.Author.Tests.{leb-false, ltb-false, lt-ltb, le-ltb, eqb-true, eqb-false, not-false}
 use Rattle.zuniq.specs.Cells.{nHash}
 use Rattle.zuniq.specs.declared.refusal.Refusal.{Refusal}
 use Rattle.zuniq.proofs.Basics.{le-or-lt}
@@ -22,6 +22,7 @@ use Rattle.build.specs.Map.{orElse}
 use Rattle.build.specs.declared.Check.{Check}
 use Rattle.build.specs.declared.counts.Total.{Total}
 use Rattle.build.specs.Add.{refusedIf, checkOf, settingsRefusal, lengthsRefusal, mapRefusal, cellRefusal, cellsRefusal, hashesRefusal, sumOf, cappedSum, sumRefusal, totalRefusal, spaceRefusal}
+use Rattle.build.specs.Standing.{Rising}
 use Rattle.build.specs.Counts.{totalOr, never}
 
 -- What a check answers tells what it found.
@@ -112,18 +113,37 @@ module _ {A : Type 0} (bad : A → Bool) (D least i : ℕ) (hs : List ℕ) (vs :
   unfolding cellsRefusal
   cells-end p = rw (drop-of-length-le hs p) refl
 
-pub cells-pass : {A : Type 0} (bad : A → Bool) (D least i : ℕ) (hs : List ℕ) (vs : List A) → length hs ≡ length vs → cellsRefusal bad D least i hs vs ≡ none
-    → (k : ℕ) → k < length hs → getD hs k 0 < nHash D
-unfolding cellsRefusal
-cells-pass bad D least i [] vs n e k p = absurd (omega arith)
-cells-pass bad D least i (h ∷ hs) [] n e k p = absurd (omega arith)
-cells-pass bad D least i (h ∷ hs) (v ∷ vs) n e zero p =
-    cell-passes (nHash D) least h i (or-else-none (cellRefusal (nHash D) least h i) (orElse (refusedIf (bad v) (Refusal.InvalidDensity i)) (cellsRefusal bad D (h + 1) (i + 1) hs vs)) e .0) .0
-cells-pass bad D least i (h ∷ hs) (v ∷ vs) n e (suc k) p =
-    let rest = cellsRefusal bad D (h + 1) (i + 1) hs vs in
-    let value = refusedIf (bad v) (Refusal.InvalidDensity i) in
-    let q = or-else-none (cellRefusal (nHash D) least h i) (orElse value rest) e .1 in
-    cells-pass bad D (h + 1) (i + 1) hs vs (omega arith) (or-else-none value rest q .1) k (omega arith)
+-- Where all pass, the cells are of their depth, and they rise.
+module _ {A : Type 0} (bad : A → Bool) (D : ℕ) where
+  first-passes : (least i h : ℕ) (hs : List ℕ) (v : A) (vs : List A) → cellsRefusal bad D least i (h ∷ hs) (v ∷ vs) ≡ none
+      → (h < nHash D) × (least ≤ h) × (cellsRefusal bad D (h + 1) (i + 1) hs vs ≡ none)
+  unfolding cellsRefusal
+  first-passes least i h hs v vs e =
+      let rest = cellsRefusal bad D (h + 1) (i + 1) hs vs in
+      let value = refusedIf (bad v) (Refusal.InvalidDensity i) in
+      let q = or-else-none (cellRefusal (nHash D) least h i) (orElse value rest) e in
+      let c = cell-passes (nHash D) least h i (q .0) in
+      (c .0, c .1, or-else-none value rest (q .1) .1)
+
+  cells-below : (least i : ℕ) (hs : List ℕ) (vs : List A) → length hs ≡ length vs → cellsRefusal bad D least i hs vs ≡ none → (k : ℕ) → k < length hs → getD hs k 0 < nHash D
+  cells-below least i [] vs n e k p = absurd (omega arith)
+  cells-below least i (h ∷ hs) [] n e k p = absurd (omega arith)
+  cells-below least i (h ∷ hs) (v ∷ vs) n e zero p = first-passes least i h hs v vs e .0
+  cells-below least i (h ∷ hs) (v ∷ vs) n e (suc k) p = cells-below (h + 1) (i + 1) hs vs (omega arith) (first-passes least i h hs v vs e .2) k (omega arith)
+
+  cells-above : (least i : ℕ) (hs : List ℕ) (vs : List A) → length hs ≡ length vs → cellsRefusal bad D least i hs vs ≡ none → (k : ℕ) → k + 1 < length hs → getD hs k 0 < getD hs (k + 1) 0
+  cells-above least i [] vs n e k p = absurd (omega arith)
+  cells-above least i (h ∷ hs) [] n e k p = absurd (omega arith)
+  cells-above least i (h ∷ []) (v ∷ vs) n e zero p = absurd (omega arith)
+  cells-above least i (h ∷ g ∷ hs) (v ∷ []) n e zero p = absurd (omega arith)
+  cells-above least i (h ∷ g ∷ hs) (v ∷ w ∷ vs) n e zero p =
+      let q = first-passes (h + 1) (i + 1) g hs w vs (first-passes least i h (g ∷ hs) v (w ∷ vs) e .2) .1 in omega arith
+  cells-above least i (h ∷ hs) (v ∷ vs) n e (suc k) p =
+      let m : suc k + 1 ≡ suc (k + 1) = omega arith in
+      rw m (cells-above (h + 1) (i + 1) hs vs (omega arith) (first-passes least i h hs v vs e .2) k (omega arith))
+
+  pub cells-pass : (least i : ℕ) (hs : List ℕ) (vs : List A) → length hs ≡ length vs → cellsRefusal bad D least i hs vs ≡ none → Rising D hs
+  cells-pass least i hs vs n e = record { below = cells-below least i hs vs n e; above = cells-above least i hs vs n e }
 
 -- Where no value is bad, the hashes are all that is tried.
 pub cells-by-hashes : (D least i : ℕ) (hs ns : List ℕ) → length hs ≡ length ns → cellsRefusal never D least i hs ns ≡ hashesRefusal D least i hs
@@ -153,6 +173,16 @@ sum-fits sum i (n ∷ ns) l e =
 pub total-fits : (sum : ℕ) (ns : List ℕ) → totalRefusal sum ns ≡ none → sum + sumOf ns ≤ 4294967295
 unfolding totalRefusal
 total-fits sum ns e = let p = or-else-none _ _ e in sum-fits sum 0 ns (ltb-false 4294967295 sum (refused-if-none _ _ (p .0))) (p .1)
+
+-- and one that fits is not refused.
+sum-not-refused : (sum i : ℕ) (ns : List ℕ) → sum + sumOf ns ≤ 4294967295 → sumRefusal sum i ns ≡ none
+unfolding sumRefusal sumOf
+sum-not-refused sum i [] l = refl
+sum-not-refused sum i (n ∷ ns) l = rw (le-ltb 4294967295 (sum + n) (omega arith)) (sum-not-refused (sum + n) (i + 1) ns (omega arith))
+
+pub total-passes : (sum : ℕ) (ns : List ℕ) → sum + sumOf ns ≤ 4294967295 → totalRefusal sum ns ≡ none
+unfolding totalRefusal
+total-passes sum ns l = rw (le-ltb 4294967295 sum (omega arith)) (sum-not-refused sum 0 ns l)
 
 -- The capped sum tells as much as the sum.
 capped-total : (vs ns : List ℕ) → totalOr (totalRefusal (cappedSum vs) ns) (cappedSum vs + sumOf ns) ≡ totalOr (totalRefusal (sumOf vs) ns) (sumOf vs + sumOf ns)

@@ -40,23 +40,25 @@ parent-zuniq K z d h p v =
     let l : 4 * (h / 4) + h % 4 < nHash (suc (d - 1)) = subst (λ (n : ℕ). 4 * (h / 4) + h % 4 < nHash n) (sym up) (let e : 4 * (h / 4) + h % 4 ≡ h = omega arith in rw e (v .hash)) in
     record { deep = omega (arith, v .deep); hash = child-valid-iff (d - 1) (h / 4) (h % 4) (omega arith) .0 l; is = refl }
 
--- Before a turn: n entries stand, (d, h) is the last, and collapsing them gives `goal`.
-pub record Turning {A : Type 0} (accept : Merger A) (K : ℕ) (goal : List (Entry A)) (n d h : ℕ) (zs : List ℕ) (vs : List A) : Type 0 where
+-- Before a turn: n entries stand, (d, h) with the value x is the last, and collapsing them gives `goal`. u is what a place past
+-- the end of the values reads as.
+pub record Turning {A : Type 0} (accept : Merger A) (K : ℕ) (u : A) (goal : List (Entry A)) (n d h : ℕ) (x : A) (zs : List ℕ) (vs : List A) : Type 0 where
   pub stands : Stands K n zs vs
   pub some-left : 0 < n
   pub top : IsZuniqOf K (getD zs (n - 1) 0) d h
+  pub value : getD vs (n - 1) u ≡ x
   pub goes : collapseUpTo accept d (held K n zs vs) ≡ goal
 
 module _ {A : Type 0} (accept : Merger A) (K : ℕ) (u : A) where
-  pub turning-starts : (n d h : ℕ) (zs : List ℕ) (vs : List A) → Stands K n zs vs → 0 < n → IsZuniqOf K (getD zs (n - 1) 0) d h
-      → Turning accept K (collapse accept (held K n zs vs)) n d h zs vs
+  pub turning-starts : (n d h : ℕ) (x : A) (zs : List ℕ) (vs : List A) → Stands K n zs vs → 0 < n → IsZuniqOf K (getD zs (n - 1) 0) d h → getD vs (n - 1) u ≡ x
+      → Turning accept K u (collapse accept (held K n zs vs)) n d h x zs vs
   unfolding collapse
-  turning-starts zero d h zs vs w p v = absurd (omega arith)
-  turning-starts (suc n) d h zs vs w p v =
+  turning-starts zero d h x zs vs w p v y = absurd (omega arith)
+  turning-starts (suc n) d h x zs vs w p v y =
       let e : suc n - 1 ≡ n = omega arith in
-      record { stands = w; some-left = p; top = v; goes = rw (held-suc K u n zs vs d h (w .zuniqs) (w .values) (rw e at v)) refl }
+      record { stands = w; some-left = p; top = v; value = y; goes = rw (held-suc K u n zs vs d h (w .zuniqs) (w .values) (rw e at v)) refl }
 
-  module _ (goal : List (Entry A)) (n d h : ℕ) (zs : List ℕ) (vs : List A) (t : Turning accept K goal n d h zs vs) where
+  module _ (goal : List (Entry A)) (n d h : ℕ) (last : A) (zs : List ℕ) (vs : List A) (t : Turning accept K u goal n d h last zs vs) where
     -- at depth 0, and where the last four are no quad or the merger keeps them, the map is what was to be reached
     pub turning-ends : d ≡ 0 → held K n zs vs ≡ goal
     unfolding collapseUpTo
@@ -68,14 +70,14 @@ module _ {A : Type 0} (accept : Merger A) (K : ℕ) (u : A) where
     pub no-quad-ends : 0 < d → quadAt K n zs d h ≡ false → held K n zs vs ≡ goal
     no-quad-ends p e = stays (step-at accept K u zs vs n d h (t .stands) p (t .top) ∙ rw e refl)
 
-    pub kept-ends : 0 < d → quadAt K n zs d h ≡ true → accept (d - 1) (h / 4) (getD vs (n - 4) u) (getD vs (n - 3) u) (getD vs (n - 2) u) (getD vs (n - 1) u) ≡ none
+    pub kept-ends : 0 < d → quadAt K n zs d h ≡ true → accept (d - 1) (h / 4) (getD vs (n - 4) u) (getD vs (n - 3) u) (getD vs (n - 2) u) last ≡ none
         → held K n zs vs ≡ goal
-    kept-ends p e a = stays (step-at accept K u zs vs n d h (t .stands) p (t .top) ∙ rw (e, a) refl)
+    kept-ends p e a = stays (step-at accept K u zs vs n d h (t .stands) p (t .top) ∙ rw (e, t .value, a) refl)
 
     -- a merged quad is one turn
     pub turns : (x : A) (z : ℕ) → 0 < d → 4 ≤ n → z ≡ zuniq K (d - 1) (h / 4) → quadAt K n zs d h ≡ true
-        → accept (d - 1) (h / 4) (getD vs (n - 4) u) (getD vs (n - 3) u) (getD vs (n - 2) u) (getD vs (n - 1) u) ≡ some x
-        → Turning accept K goal (n - 4 + 1) (d - 1) (h / 4) (set zs (n - 4) z) (set vs (n - 4) x)
+        → accept (d - 1) (h / 4) (getD vs (n - 4) u) (getD vs (n - 3) u) (getD vs (n - 2) u) last ≡ some x
+        → Turning accept K u goal (n - 4 + 1) (d - 1) (h / 4) x (set zs (n - 4) z) (set vs (n - 4) x)
     turns x z p q y e a =
         let w = t .stands in
         let lz : n - 4 < length zs = omega (arith, w .zuniqs) in
@@ -83,11 +85,12 @@ module _ {A : Type 0} (accept : Merger A) (K : ℕ) (u : A) where
         let v : IsZuniqOf K z (d - 1) (h / 4) = rw y (parent-zuniq K (getD zs (n - 1) 0) d h p (t .top)) in
         let i : n - 4 + 1 - 1 ≡ n - 4 = omega arith in
         let f : suc (d - 1) ≡ d = omega arith in
-        let s : step accept (held K n zs vs) ≡ some (entry (d - 1) (h / 4) x ∷ held K (n - 4) zs vs) = step-at accept K u zs vs n d h w p (t .top) ∙ rw (e, a) refl in
+        let s : step accept (held K n zs vs) ≡ some (entry (d - 1) (h / 4) x ∷ held K (n - 4) zs vs) = step-at accept K u zs vs n d h w p (t .top) ∙ rw (e, t .value, a) refl in
         record {
           stands = rw (add-one (n - 4)) (stands-set K n (n - 4) zs vs z (d - 1) (h / 4) x w (omega arith) lz lv v);
           some-left = omega arith;
           top = rw (i, getD-set-same zs (n - 4) z 0 lz) v;
+          value = rw i (getD-set-same vs (n - 4) x u lv);
           goes =
               rw (add-one (n - 4), held-set K (n - 4) zs vs z (d - 1) (h / 4) x lz lv v)
               (sym (collapse-some accept (d - 1) (held K n zs vs) (entry (d - 1) (h / 4) x ∷ held K (n - 4) zs vs) s)

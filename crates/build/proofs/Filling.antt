@@ -43,6 +43,20 @@ module _ (l : List ℕ) (i : ℕ) where
   unfolding sumOf
   sum-drop p = rw (drop-cons l i 0 p, add-one i) refl
 
+  pub sum-drop-four : i + 4 ≤ length l → sumOf (drop i l) ≡ getD l i 0 + getD l (i + 1) 0 + getD l (i + 2) 0 + getD l (i + 3) 0 + sumOf (drop (i + 4) l)
+  unfolding sumOf
+  sum-drop-four p =
+      let i2 : i + 1 + 1 ≡ i + 2 = omega arith in
+      let i3 : i + 2 + 1 ≡ i + 3 = omega arith in
+      let i4 : i + 3 + 1 ≡ i + 4 = omega arith in
+      let s1 = rw i2 at (drop-one (i + 1) (omega arith)) in
+      let s2 = rw i3 at (drop-one (i + 2) (omega arith)) in
+      let s3 = rw i4 at (drop-one (i + 3) (omega arith)) in
+      omega (arith, drop-one i (omega arith), s1, s2, s3)
+    where
+      drop-one : (j : ℕ) → j < length l → sumOf (drop j l) ≡ getD l j 0 + sumOf (drop (j + 1) l)
+      drop-one j q = rw (drop-cons l j 0 q, add-one j) refl
+
   pub sum-passes : (sum : ℕ) → i < length l → 4294967295 < sum + getD l i 0 → sumRefusal sum i (drop i l) ≡ some (Refusal.CountOverflow i)
   unfolding sumRefusal
   sum-passes sum p q = rw (drop-cons l i 0 p, lt-ltb 4294967295 (sum + getD l i 0) q) refl

@@ -16,6 +16,7 @@ pub mod Quads
 pub mod Collapsing
 pub mod Filling
 pub mod Checking
+pub mod Siblings
 pub mod Pushing
 pub mod Ends
 pub mod Accepted

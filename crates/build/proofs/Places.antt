@@ -89,6 +89,7 @@ module _ {A : Type 0} (K : ℕ) where
   pub record Stored (n z d h : ℕ) (x : A) (zs : List ℕ) (vs : List A) (zs′ : List ℕ) (vs′ : List A) : Type 0 where
     pub stands : Stands K (n + 1) zs′ vs′
     pub top : IsZuniqOf K (getD zs′ (n + 1 - 1) 0) d h
+    pub value : (u : A) → getD vs′ (n + 1 - 1) u ≡ x
     pub map-is : held K (n + 1) zs′ vs′ ≡ entry d h x ∷ held K n zs vs
 
   pub stored : (n z d h : ℕ) (x : A) (zs : List ℕ) (vs : List A) (zs′ : List ℕ) (vs′ : List A) → Stands K n zs vs → n < length zs → n < length vs → IsZuniqOf K z d h
@@ -99,6 +100,7 @@ module _ {A : Type 0} (K : ℕ) where
       (record {
         stands = rw (add-one n) (stands-set n n zs vs z d h x w (omega arith) p q v);
         top = rw (i, getD-set-same zs n z 0 p) v;
+        value = λ u. rw i (getD-set-same vs n x u q);
         map-is = rw (add-one n) (held-set n zs vs z d h x p q v);
       })
 

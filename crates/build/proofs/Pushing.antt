@@ -1,7 +1,7 @@
 -- Appending a batch to a map in two buffers, cell by cell: what is known before a cell, after it, and in the end. Over any
 -- type of values and any merger. Assumes nothing.
 use mathlib.Core.Path.{_≡_, refl, ap, sym, _∙_}
-use mathlib.Core.List.{List, [], _∷_}
+use mathlib.Core.List.{List, [], _∷_, _++_}
 use Prim.Native.Nat.{ℕ, _+_, _≤_, _<_}
 use native.Mathlib.Omega.{arith}
 use lib.ListN.{length, getD, drop, drop-of-length-le}
@@ -9,8 +9,8 @@ use Rattle.build.specs.Map.{Entry, entry, Merger}
 use Rattle.build.specs.Stack.{run}
 use Rattle.build.specs.Promises.{total, Sums}
 use Rattle.build.specs.Buffers.{batch, held}
-use Rattle.build.specs.Standing.{Stands, Pushed, Added}
-use Rattle.build.proofs.Adding.{collapse-total}
+use Rattle.build.specs.Standing.{Stands, siblings, Pushed, Added}
+use Rattle.build.proofs.Adding.{run-append, collapse-total, run-total}
 use Rattle.build.proofs.Buffers.{length-batch, batch-drop}
 
 -- Before cell i of a batch: n entries stand, and with the cells from i on they become what all cells make of the first m.
@@ -37,6 +37,27 @@ module _ {A : Type 0} (accept : Merger A) (K D m : ℕ) (hs : List ℕ) (xs : Li
           ∙ sym (ap (run accept (held K n zs vs)) (batch-drop D hs xs u i p q)) ∙ b .goes;
     }
 
+    -- the same where four siblings are added at once
+    pub before-next-four : i + 4 ≤ length hs → i + 4 ≤ length xs → (h : ℕ) → getD hs i 0 ≡ h → getD hs (i + 1) 0 ≡ h + 1 → getD hs (i + 2) 0 ≡ h + 2 → getD hs (i + 3) 0 ≡ h + 3
+        → (r : ℕ) (zs′ : List ℕ) (vs′ : List A) → Added accept K n (siblings D h (getD xs i u) (getD xs (i + 1) u) (getD xs (i + 2) u) (getD xs (i + 3) u)) zs vs r zs′ vs′
+        → Before accept K D m hs xs zs₀ vs₀ (i + 4) r zs′ vs′
+    before-next-four p q h h0 h1 h2 h3 r zs′ vs′ w =
+        let rest = batch D (drop (i + 4) hs) (drop (i + 4) xs) in
+        let four = siblings D h (getD xs i u) (getD xs (i + 1) u) (getD xs (i + 2) u) (getD xs (i + 3) u) in
+        let i2 : i + 1 + 1 ≡ i + 2 = omega arith in
+        let i3 : i + 2 + 1 ≡ i + 3 = omega arith in
+        let i4 : i + 3 + 1 ≡ i + 4 = omega arith in
+        let b3 : batch D (drop (i + 3) hs) (drop (i + 3) xs) ≡ entry D (h + 3) (getD xs (i + 3) u) ∷ rest = rw (i4, h3) at (batch-drop D hs xs u (i + 3) (omega arith) (omega arith)) in
+        let b2 : batch D (drop (i + 2) hs) (drop (i + 2) xs) ≡ entry D (h + 2) (getD xs (i + 2) u) ∷ entry D (h + 3) (getD xs (i + 3) u) ∷ rest = rw (i3, h2, b3) at (batch-drop D hs xs u (i + 2) (omega arith) (omega arith)) in
+        let b1 : batch D (drop (i + 1) hs) (drop (i + 1) xs) ≡ entry D (h + 1) (getD xs (i + 1) u) ∷ entry D (h + 2) (getD xs (i + 2) u) ∷ entry D (h + 3) (getD xs (i + 3) u) ∷ rest = rw (i2, h1, b2) at (batch-drop D hs xs u (i + 1) (omega arith) (omega arith)) in
+        let b0 : batch D (drop i hs) (drop i xs) ≡ four ++ rest = rw (h0, b1) at (batch-drop D hs xs u i (omega arith) (omega arith)) in
+        record {
+          within = omega arith;
+          stands = w .stands;
+          least = omega (arith, w .least, b .least);
+          goes = ap (λ s. run accept s rest) (w .is) ∙ sym (run-append accept (held K n zs vs) four rest) ∙ sym (ap (run accept (held K n zs vs)) b0) ∙ b .goes;
+        }
+
     pub after-last : length hs ≡ length xs → length hs ≤ i → Added accept K m (batch D hs xs) zs₀ vs₀ n zs vs
     unfolding batch run
     after-last e f = record {
@@ -49,3 +70,8 @@ module _ {A : Type 0} (accept : Merger A) (K D m : ℕ) (hs : List ℕ) (xs : Li
 pub pushed-total : {A : Type 0} (accept : Merger A) (figure : A → ℕ) → Sums accept figure → (K n : ℕ) (e : Entry A) (zs : List ℕ) (vs : List A) (r : ℕ) (zs′ : List ℕ) (vs′ : List A)
     → Pushed accept K n e zs vs r zs′ vs′ → total figure (held K r zs′ vs′) ≡ figure (e .value) + total figure (held K n zs vs)
 pushed-total accept figure sums K n e zs vs r zs′ vs′ w = rw (w .is) (collapse-total accept figure sums (e ∷ held K n zs vs))
+
+-- and so do four siblings.
+pub added-total : {A : Type 0} (accept : Merger A) (figure : A → ℕ) → Sums accept figure → (K n : ℕ) (l : List (Entry A)) (zs : List ℕ) (vs : List A) (r : ℕ) (zs′ : List ℕ) (vs′ : List A)
+    → Added accept K n l zs vs r zs′ vs′ → total figure (held K r zs′ vs′) ≡ total figure (held K n zs vs) + total figure l
+added-total accept figure sums K n l zs vs r zs′ vs′ w = rw (w .is) (run-total accept figure sums (held K n zs vs) l)

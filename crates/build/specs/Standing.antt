@@ -1,12 +1,13 @@
 -- What the inner functions of adding promise: a map in the first places of two buffers, while cells are appended to it.
 use mathlib.Core.Path.{_≡_}
 use mathlib.Core.Bool.{Bool, _&&_}
-use mathlib.Core.List.{List, _∷_}
+use mathlib.Core.List.{List, [], _∷_}
 use Prim.Native.Nat.{ℕ, _+_, _*_, _/_, _%_, _-_, _≤_, _<_}
 use lib.Dec.{eqb, leb}
 use lib.ListN.{length, getD}
+use Rattle.zuniq.specs.Cells.{nHash}
 use Rattle.zuniq.specs.Codec.{zuniq, IsZuniqOf}
-use Rattle.build.specs.Map.{Entry, Merger}
+use Rattle.build.specs.Map.{Entry, entry, Merger}
 use Rattle.build.specs.Stack.{collapse, run}
 use Rattle.build.specs.Buffers.{held}
 
@@ -24,6 +25,19 @@ quadAt K n zs d h =
     && (eqb (getD zs (n - 2) 0) (zuniq K d (4 * (h / 4) + 2))
     && (eqb (getD zs (n - 3) 0) (zuniq K d (4 * (h / 4) + 1))
     && eqb (getD zs (n - 4) 0) (zuniq K d (4 * (h / 4) + 0)))))
+
+-- Hashes of depth D that rise.
+pub record Rising (D : ℕ) (hs : List ℕ) : Type 0 where
+  pub below : (i : ℕ) → i < length hs → getD hs i 0 < nHash D
+  pub above : (i : ℕ) → i + 1 < length hs → getD hs i 0 < getD hs (i + 1) 0
+
+-- The hashes from place i on are those of children 0 to 3 of one parent: where they rise, the first and the fourth tell.
+unfoldable pub siblingsFrom : List ℕ → ℕ → Bool
+siblingsFrom hs i = leb 4 (length hs - i) && (eqb (getD hs (i + 3) 0) (getD hs i 0 + 3) && eqb (getD hs i 0 % 4) 0)
+
+-- Four siblings with their values, (d, h) being the first: as cells to be added.
+abbrev pub siblings : {A : Type 0} → ℕ → ℕ → A → A → A → A → List (Entry A)
+siblings d h a b c e = entry d h a ∷ entry d (h + 1) b ∷ entry d (h + 2) c ∷ entry d (h + 3) e ∷ []
 
 -- What collapsing the map in the first n places leaves: r entries, which are that map collapsed.
 pub record Collapsed {A : Type 0} (accept : Merger A) (K n : ℕ) (zs : List ℕ) (vs : List A) (r : ℕ) (zs′ : List ℕ) (vs′ : List A) : Type 0 where

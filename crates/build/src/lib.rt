@@ -12,7 +12,7 @@ ghost use Prim.Native.Nat.{ℕ, _+_, _-_, _*_, _^_, _≤_, _<_};
 ghost use lib.ListN.{length, getD, take, replicate};
 ghost use Rattle.zuniq.specs.Codec.{IsZuniqOf};
 ghost use Rattle.mom.specs.Map.{firstFault, ValidMap};
-ghost use Rattle.build.specs.Standing.{quadAt};
+ghost use Rattle.build.specs.Standing.{quadAt, siblingsFrom};
 ghost use Rattle.build.specs.Add.{settingsRefusal, lengthsRefusal, cellRefusal, checkOf, mapRefusal, mapEnd, spaceRefusal};
 use merger::is_nan;
 use mom::FirstFault;
@@ -142,6 +142,22 @@ pub(crate) fn are_siblings(zuniqs: &[u64], n: usize, depth: u8, hash: u64) -> bo
         return false;
     }
     zuniqs[n - 4] == last - 3 * gap
+}
+
+// Whether the hashes from a place on are those of children 0 to 3 of one parent: of hashes that rise
+// the first and the fourth tell.
+pub(crate) fn are_next_siblings(hashes: &[u64], i: usize) -> bool
+    requires { ⌜ (i < length (now hashes)) × (getD (now hashes) i 0 + 3 < 2 ^ 64) ⌝ }
+    ensures { λ r. ⌜ r ≡ siblingsFrom (now (hashes .entry)) i ⌝ }
+{
+    if hashes.len() - i < 4 {
+        return false;
+    }
+    let hash = hashes[i];
+    if hashes[i + 3] != hash + 3 {
+        return false;
+    }
+    hash % 4 == 0
 }
 
 // How far apart the zuniqs of a cell and of the next of its depth are.

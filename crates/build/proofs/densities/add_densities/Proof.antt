@@ -10,7 +10,6 @@ use Rattle.build.specs.Densities.{densitiesRefusal, addDensities}
 use Rattle.build.proofs.Checking.{check-passed, check-refused, cells-pass}
 use Rattle.build.proofs.Accepted.{valid-stands, cleared}
 use Rattle.build.proofs.DensityCalls.{densities-accepted, densities-left}
-use borrow.Author.Needs.{needs}
 use Rattle.build.proofs.densities.add_densities.Statement.{statement}
 use Rattle.build.proofs.densities.add_densities.Tie as tie
 
@@ -28,13 +27,21 @@ same-length-2 c = search needs
 
 returns : tie.Need-returns
 unfolding addDensities addCall
-returns c = rw (check-refused (densitiesRefusal (c .before .before .before .before .before .before .before .before .before .before .args .depth) (c .before .before .before .before .before .before .before .before .before .before .args .depth-threshold) (c .before .before .before .before .before .before .before .before .before .before .args .chi2-threshold) (c .before .before .before .before .before .before .before .before .before .before .args .held) (length (c .before .before .before .before .before .before .before .before .before .before .args .zuniqs .now)) (length (c .before .before .before .before .before .before .before .before .before .before .args .densities .now)) (take (c .before .before .before .before .before .before .before .before .before .before .args .held) (c .before .before .before .before .before .before .before .before .before .before .args .zuniqs .now)) (take (c .before .before .before .before .before .before .before .before .before .before .args .held) (c .before .before .before .before .before .before .before .before .before .before .args .densities .now)) (c .before .before .before .before .before .before .before .before .before .before .args .hashes .now) (c .before .before .before .before .before .before .before .before .before .before .args .batch .now)) (c .before .refusal .given .0 .0) (sym (c .before .refusal .given .1) ∙ c .before .before .before .check .ensures)) refl
+returns c = let x = c .before .before .before .before .before .before .before .before .before .before .args in
+    let r = densitiesRefusal (x .depth) (x .depth-threshold) (x .chi2-threshold) (x .held) (length (x .zuniqs .now)) (length (x .densities .now)) (take (x .held) (x .zuniqs .now)) (take (x .held) (x .densities .now)) (x .hashes .now) (x .batch .now) in
+    rw (check-refused r (c .before .refusal .given .0 .0) (sym (c .before .refusal .given .1) ∙ c .before .before .before .check .ensures)) refl
 
 enum-told : tie.Need-enum-told
 enum-told c = search needs
 
 push-all-requires : tie.Need-push-all-requires
-push-all-requires c κs = let a = (densities-accepted (c .before .before .before .before .before .before .before .before .before .before .before .args .depth) (c .before .before .before .before .before .before .before .before .before .before .before .args .depth-threshold) (c .before .before .before .before .before .before .before .before .before .before .before .args .chi2-threshold) (c .before .before .before .before .before .before .before .before .before .before .before .args .held) (length (c .before .before .before .before .before .before .before .before .before .before .before .args .zuniqs .now)) (length (c .before .before .before .before .before .before .before .before .before .before .before .args .densities .now)) (take (c .before .before .before .before .before .before .before .before .before .before .before .args .held) (c .before .before .before .before .before .before .before .before .before .before .before .args .zuniqs .now)) (take (c .before .before .before .before .before .before .before .before .before .before .before .args .held) (c .before .before .before .before .before .before .before .before .before .before .before .args .densities .now)) (c .before .before .before .before .before .before .before .before .before .before .before .args .hashes .now) (c .before .before .before .before .before .before .before .before .before .before .before .args .batch .now) (check-passed (densitiesRefusal (c .before .before .before .before .before .before .before .before .before .before .before .args .depth) (c .before .before .before .before .before .before .before .before .before .before .before .args .depth-threshold) (c .before .before .before .before .before .before .before .before .before .before .before .args .chi2-threshold) (c .before .before .before .before .before .before .before .before .before .before .before .args .held) (length (c .before .before .before .before .before .before .before .before .before .before .before .args .zuniqs .now)) (length (c .before .before .before .before .before .before .before .before .before .before .before .args .densities .now)) (take (c .before .before .before .before .before .before .before .before .before .before .before .args .held) (c .before .before .before .before .before .before .before .before .before .before .before .args .zuniqs .now)) (take (c .before .before .before .before .before .before .before .before .before .before .before .args .held) (c .before .before .before .before .before .before .before .before .before .before .before .args .densities .now)) (c .before .before .before .before .before .before .before .before .before .before .before .args .hashes .now) (c .before .before .before .before .before .before .before .before .before .before .before .args .batch .now)) (sym (c .before .before .enum-told .given .1) ∙ c .before .before .before .before .check .ensures))) in ((((valid-stands 29 (c .before .before .before .before .before .before .before .before .before .before .before .args .depth) (c .before .before .before .before .before .before .before .before .before .before .before .args .held) (c .before .before .before .before .before .before .before .before .before .before .before .args .zuniqs .now) (c .before .before .before .before .before .before .before .before .before .before .before .args .densities .now) (a .within) (omega (arith, a .within, a .paired)) (a .valid)), a .shallow, a .batched, a .room, omega (arith, a .room, a .paired))), cells-pass invalidDensity (c .before .before .before .before .before .before .before .before .before .before .before .args .depth) (mapEnd 29 (c .before .before .before .before .before .before .before .before .before .before .before .args .depth) (take (c .before .before .before .before .before .before .before .before .before .before .before .args .held) (c .before .before .before .before .before .before .before .before .before .before .before .args .zuniqs .now))) 0 (c .before .before .before .before .before .before .before .before .before .before .before .args .hashes .now) (c .before .before .before .before .before .before .before .before .before .before .before .args .batch .now) (a .batched) (a .cells))
+push-all-requires c κs = let x = c .before .before .before .before .before .before .before .before .before .before .before .args in
+    let r = densitiesRefusal (x .depth) (x .depth-threshold) (x .chi2-threshold) (x .held) (length (x .zuniqs .now)) (length (x .densities .now)) (take (x .held) (x .zuniqs .now)) (take (x .held) (x .densities .now)) (x .hashes .now) (x .batch .now) in
+    let q = check-passed r (sym (c .before .before .enum-told .given .1) ∙ c .before .before .before .before .check .ensures) in
+    let a = densities-accepted (x .depth) (x .depth-threshold) (x .chi2-threshold) (x .held) (length (x .zuniqs .now)) (length (x .densities .now)) (take (x .held) (x .zuniqs .now)) (take (x .held) (x .densities .now)) (x .hashes .now) (x .batch .now) q in
+    let s = valid-stands 29 (x .depth) (x .held) (x .zuniqs .now) (x .densities .now) (a .within) (omega (arith, a .within, a .paired)) (a .valid) in
+    let rising = cells-pass invalidDensity (x .depth) (mapEnd 29 (x .depth) (take (x .held) (x .zuniqs .now))) 0 (x .hashes .now) (x .batch .now) (a .batched) (a .cells) in
+    ((s, a .positive, a .shallow, a .batched, a .room, omega (arith, a .room, a .paired)), rising)
 
 mul-clear-zuniqs : tie.Need-mul-clear-zuniqs
 mul-clear-zuniqs c = search needs
@@ -73,9 +80,13 @@ same-length-4 : tie.Need-same-length-4
 same-length-4 c = search needs
 
 returns-2 : tie.Need-returns-2
-returns-2 c = let w = c .before .before .before .before .before .before .before .before .before .before .before .before .push-all .ensures in
-    densities-left (c .before .before .before .before .before .before .before .before .before .before .before .before .before .before .before .before .before .before .before .before .before .before .before .before .args .depth) (c .before .before .before .before .before .before .before .before .before .before .before .before .before .before .before .before .before .before .before .before .before .before .before .before .args .depth-threshold) (c .before .before .before .before .before .before .before .before .before .before .before .before .before .before .before .before .before .before .before .before .before .before .before .before .args .chi2-threshold) (c .before .before .before .before .before .before .before .before .before .before .before .before .before .before .before .before .before .before .before .before .before .before .before .before .args .held) (c .before .before .before .before .before .before .before .before .before .before .before .before .before .before .before .before .before .before .before .before .before .before .before .before .args .zuniqs .now) (c .before .before .before .before .before .before .before .before .before .before .before .before .before .before .before .before .before .before .before .before .before .before .before .before .args .densities .now) (c .before .before .before .before .before .before .before .before .before .before .before .before .before .before .before .before .before .before .before .before .before .before .before .before .args .hashes .now) (c .before .before .before .before .before .before .before .before .before .before .before .before .before .before .before .before .before .before .before .before .before .before .before .before .args .batch .now) (check-passed (densitiesRefusal (c .before .before .before .before .before .before .before .before .before .before .before .before .before .before .before .before .before .before .before .before .before .before .before .before .args .depth) (c .before .before .before .before .before .before .before .before .before .before .before .before .before .before .before .before .before .before .before .before .before .before .before .before .args .depth-threshold) (c .before .before .before .before .before .before .before .before .before .before .before .before .before .before .before .before .before .before .before .before .before .before .before .before .args .chi2-threshold) (c .before .before .before .before .before .before .before .before .before .before .before .before .before .before .before .before .before .before .before .before .before .before .before .before .args .held) (length (c .before .before .before .before .before .before .before .before .before .before .before .before .before .before .before .before .before .before .before .before .before .before .before .before .args .zuniqs .now)) (length (c .before .before .before .before .before .before .before .before .before .before .before .before .before .before .before .before .before .before .before .before .before .before .before .before .args .densities .now)) (take (c .before .before .before .before .before .before .before .before .before .before .before .before .before .before .before .before .before .before .before .before .before .before .before .before .args .held) (c .before .before .before .before .before .before .before .before .before .before .before .before .before .before .before .before .before .before .before .before .before .before .before .before .args .zuniqs .now)) (take (c .before .before .before .before .before .before .before .before .before .before .before .before .before .before .before .before .before .before .before .before .before .before .before .before .args .held) (c .before .before .before .before .before .before .before .before .before .before .before .before .before .before .before .before .before .before .before .before .before .before .before .before .args .densities .now)) (c .before .before .before .before .before .before .before .before .before .before .before .before .before .before .before .before .before .before .before .before .before .before .before .before .args .hashes .now) (c .before .before .before .before .before .before .before .before .before .before .before .before .before .before .before .before .before .before .before .before .before .before .before .before .args .batch .now)) (sym (c .before .before .before .before .before .before .before .before .before .before .before .before .before .before .before .enum-told .given .1) ∙ c .before .before .before .before .before .before .before .before .before .before .before .before .before .before .before .before .before .check .ensures)) (c .before .before .before .before .before .before .before .before .before .before .before .before .push-all .result) (c .before .before .before .before .before .before .before .before .before .before .before .before .push-all .last .0) (c .before .before .before .before .before .before .before .before .before .before .before .before .push-all .last .1 .0) _ _ w (c .before .before .before .before .before .before .before .before .before .before .before .before .push-all .kept .0) (c .before .before .before .before .before .before .before .before .before .before .before .before .push-all .kept .1 .0)
-    (cleared (c .before .before .before .before .before .before .before .before .before .before .before .before .push-all .result) (c .before .before .before .before .before .before .before .before .before .before .before .before .push-all .last .0) _ 0 (w .stands .zuniqs) (c .before .before .before .before .before .before .clear-zuniqs .ensures)) (cleared (c .before .before .before .before .before .before .before .before .before .before .before .before .push-all .result) (c .before .before .before .before .before .before .before .before .before .before .before .before .push-all .last .1 .0) _ 0·0 (w .stands .values) (c .before .before .clear-densities .ensures))
+returns-2 c = let x = c .before .before .before .before .before .before .before .before .before .before .before .before .before .before .before .before .before .before .before .before .before .before .before .before .args in
+    let p = c .before .before .before .before .before .before .before .before .before .before .before .before .push-all in
+    let w = p .ensures in
+    let r = densitiesRefusal (x .depth) (x .depth-threshold) (x .chi2-threshold) (x .held) (length (x .zuniqs .now)) (length (x .densities .now)) (take (x .held) (x .zuniqs .now)) (take (x .held) (x .densities .now)) (x .hashes .now) (x .batch .now) in
+    let q = check-passed r (sym (c .before .before .before .before .before .before .before .before .before .before .before .before .before .before .before .enum-told .given .1) ∙ c .before .before .before .before .before .before .before .before .before .before .before .before .before .before .before .before .before .check .ensures) in
+    densities-left (x .depth) (x .depth-threshold) (x .chi2-threshold) (x .held) (x .zuniqs .now) (x .densities .now) (x .hashes .now) (x .batch .now) q (p .result) (p .last .0) (p .last .1 .0) _ _ w (p .kept .0) (p .kept .1 .0)
+    (cleared (p .result) (p .last .0) _ 0 (w .stands .zuniqs) (c .before .before .before .before .before .before .clear-zuniqs .ensures)) (cleared (p .result) (p .last .1 .0) _ 0·0 (w .stands .values) (c .before .before .clear-densities .ensures))
 
 pub add-densities-spec : {M : Type 1} → statement M
 add-densities-spec =

@@ -15,19 +15,20 @@ use Rattle.build.proofs.densities.collapse.Statement.{statement}
 use Rattle.build.proofs.densities.collapse.Tie as tie
 
 abbrev Inv-loop : tie.InvT-loop
-Inv-loop zuniqs₀ densities₀ len last-depth last-hash depth-threshold chi2-threshold n₀ depth₀ hash₀ zuniqs densities n depth hash =
+Inv-loop zuniqs₀ densities₀ len last-depth last-hash last-density depth-threshold chi2-threshold n₀ depth₀ hash₀ density₀ zuniqs densities n depth hash density =
+    let accept = acceptDensities depth-threshold chi2-threshold in
     (n ≤ len) × (length zuniqs ≡ length zuniqs₀) × (length densities ≡ length densities₀)
-    × Turning (acceptDensities depth-threshold chi2-threshold) 29 (collapse (acceptDensities depth-threshold chi2-threshold) (held 29 len zuniqs₀ densities₀)) n depth hash zuniqs densities
+    × Turning accept 29 nan (collapse accept (held 29 len zuniqs₀ densities₀)) n depth hash density zuniqs densities
 
 abbrev μ-loop : tie.MeasureT-loop
-μ-loop zuniqs₀ densities₀ len last-depth last-hash depth-threshold chi2-threshold n₀ depth₀ hash₀ zuniqs densities n depth hash =
-    depth
+μ-loop zuniqs₀ densities₀ len last-depth last-hash last-density depth-threshold chi2-threshold n₀ depth₀ hash₀ density₀ zuniqs densities n depth hash density = depth
 
 loop-holds : tie.Need-loop-holds Inv-loop μ-loop
-loop-holds c = (omega arith, refl, refl, turning-starts (acceptDensities (c .before .before .args .depth-threshold) (c .before .before .args .chi2-threshold)) 29 nan (c .before .before .args .len) (c .before .before .args .last-depth) (c .before .before .args .last-hash) (c .before .before .args .zuniqs .now) (c .before .before .args .densities .now) (c .before .before .pre .1) (c .before .before .pre .0) (c .before .before .pre .2))
+loop-holds c = let a = c .before .before .args in
+    (omega arith, refl, refl, turning-starts (acceptDensities (a .depth-threshold) (a .chi2-threshold)) 29 nan (a .len) (a .last-depth) (a .last-hash) (a .last-density) (a .zuniqs .now) (a .densities .now) (c .before .before .pre .1) (c .before .before .pre .0) (c .before .before .pre .2) (c .before .before .pre .3))
 
 are-siblings-requires : tie.Need-are-siblings-requires Inv-loop μ-loop
-are-siblings-requires c κs = (c .before .before .loop .inv .3 .stands .zuniqs, c .before .before .loop .inv .3 .top)
+are-siblings-requires c κs = let o = c .before .before .loop in (o .inv .3 .stands .zuniqs, o .inv .3 .top)
 
 same-length : tie.Need-same-length Inv-loop μ-loop
 same-length c = c .before .before .before .before .loop .inv .1
@@ -36,13 +37,18 @@ same-length-2 : tie.Need-same-length-2 Inv-loop μ-loop
 same-length-2 c = c .before .before .before .before .loop .inv .2
 
 returns : tie.Need-returns Inv-loop μ-loop
-returns c = record { stands = c .before .before .before .before .loop .inv .3 .stands; least = c .before .before .before .before .loop .inv .0; is = no-quad-ends (acceptDensities (c .before .before .before .before .before .before .before .args .depth-threshold) (c .before .before .before .before .before .before .before .args .chi2-threshold)) 29 nan (collapse (acceptDensities (c .before .before .before .before .before .before .before .args .depth-threshold) (c .before .before .before .before .before .before .before .args .chi2-threshold)) (held 29 (c .before .before .before .before .before .before .before .args .len) (c .before .before .before .before .before .before .before .args .zuniqs .now) (c .before .before .before .before .before .before .before .args .densities .now))) (c .before .before .before .before .loop .n) (c .before .before .before .before .loop .depth) (c .before .before .before .before .loop .hash) (c .before .before .before .before .loop .zuniqs) (c .before .before .before .before .loop .densities) (c .before .before .before .before .loop .inv .3) (c .before .before .before .loop-test .taken) (sym (c .before .are-siblings .ensures) ∙ not-true _ (c .if1 .taken)) }
+returns c = let o = c .before .before .before .before .loop in
+    let a = c .before .before .before .before .before .before .before .args in
+    record { stands = o .inv .3 .stands; least = o .inv .0; is = no-quad-ends (acceptDensities (a .depth-threshold) (a .chi2-threshold)) 29 nan _ (o .n) (o .depth) (o .hash) (o .density) (o .zuniqs) (o .densities) (o .inv .3) (c .before .before .before .loop-test .taken) (sym (c .before .are-siblings .ensures) ∙ not-true _ (c .if1 .taken)) }
 
 sub-depth : tie.Need-sub-depth Inv-loop μ-loop
 sub-depth c = search needs
 
 merge-last-requires : tie.Need-merge-last-requires Inv-loop μ-loop
-merge-last-requires c κs = ((quad-four 29 (c .before .before .before .before .before .loop .n) (c .before .before .before .before .before .loop .zuniqs) (c .before .before .before .before .before .loop .depth) (c .before .before .before .before .before .loop .hash) (sym (c .before .before .are-siblings .ensures) ∙ not-false _ (c .before .if1 .left))), c .before .before .before .before .before .loop .inv .3 .stands .values, (parent-zuniq 29 (getD (c .before .before .before .before .before .loop .zuniqs) (c .before .before .before .before .before .loop .n - 1) 0) (c .before .before .before .before .before .loop .depth) (c .before .before .before .before .before .loop .hash) (c .before .before .before .before .loop-test .taken) (c .before .before .before .before .before .loop .inv .3 .top)) .deep)
+merge-last-requires c κs = let o = c .before .before .before .before .before .loop in
+    let q = sym (c .before .before .are-siblings .ensures) ∙ not-false _ (c .before .if1 .left) in
+    let f = quad-four 29 (o .n) (o .zuniqs) (o .depth) (o .hash) q in
+    (f, o .inv .3 .stands .values, omega (arith, o .inv .3 .top .deep))
 
 enum-told : tie.Need-enum-told Inv-loop μ-loop
 enum-told c = search needs
@@ -54,41 +60,67 @@ same-length-4 : tie.Need-same-length-4 Inv-loop μ-loop
 same-length-4 c = c .before .before .before .before .before .before .before .before .loop .inv .2
 
 returns-2 : tie.Need-returns-2 Inv-loop μ-loop
-returns-2 c = record { stands = c .before .before .before .before .before .before .before .before .loop .inv .3 .stands; least = c .before .before .before .before .before .before .before .before .loop .inv .0; is = kept-ends (acceptDensities (c .before .before .before .before .before .before .before .before .before .before .before .args .depth-threshold) (c .before .before .before .before .before .before .before .before .before .before .before .args .chi2-threshold)) 29 nan (collapse (acceptDensities (c .before .before .before .before .before .before .before .before .before .before .before .args .depth-threshold) (c .before .before .before .before .before .before .before .before .before .before .before .args .chi2-threshold)) (held 29 (c .before .before .before .before .before .before .before .before .before .before .before .args .len) (c .before .before .before .before .before .before .before .before .before .before .before .args .zuniqs .now) (c .before .before .before .before .before .before .before .before .before .before .before .args .densities .now))) (c .before .before .before .before .before .before .before .before .loop .n) (c .before .before .before .before .before .before .before .before .loop .depth) (c .before .before .before .before .before .before .before .before .loop .hash) (c .before .before .before .before .before .before .before .before .loop .zuniqs) (c .before .before .before .before .before .before .before .before .loop .densities) (c .before .before .before .before .before .before .before .before .loop .inv .3) (c .before .before .before .before .before .before .before .loop-test .taken) (sym (c .before .before .before .before .before .are-siblings .ensures) ∙ not-false _ (c .before .before .before .before .if1 .left)) (reject-densities-iff-kept (c .before .before .before .before .before .before .before .before .before .before .before .args .depth-threshold) (c .before .before .before .before .before .before .before .before .before .before .before .args .chi2-threshold) (c .before .before .before .before .before .before .before .before .loop .depth - 1) (c .before .before .before .before .before .before .before .before .loop .hash / 4) (getD (c .before .before .before .before .before .before .before .before .loop .densities) (c .before .before .before .before .before .before .before .before .loop .n - 4) nan) (getD (c .before .before .before .before .before .before .before .before .loop .densities) (c .before .before .before .before .before .before .before .before .loop .n - 3) nan) (getD (c .before .before .before .before .before .before .before .before .loop .densities) (c .before .before .before .before .before .before .before .before .loop .n - 2) nan) (getD (c .before .before .before .before .before .before .before .before .loop .densities) (c .before .before .before .before .before .before .before .before .loop .n - 1) nan) .1 (_, sym (c .before .before .merge-last .ensures) ∙ c .enum-told .given .1)) }
+returns-2 c = let o = c .before .before .before .before .before .before .before .before .loop in
+    let a = c .before .before .before .before .before .before .before .before .before .before .before .args in
+    record { stands = o .inv .3 .stands; least = o .inv .0; is = kept-ends (acceptDensities (a .depth-threshold) (a .chi2-threshold)) 29 nan _ (o .n) (o .depth) (o .hash) (o .density) (o .zuniqs) (o .densities) (o .inv .3) (c .before .before .before .before .before .before .before .loop-test .taken) (sym (c .before .before .before .before .before .are-siblings .ensures) ∙ not-false _ (c .before .before .before .before .if1 .left)) (reject-densities-iff-kept (a .depth-threshold) (a .chi2-threshold) (o .depth - 1) (o .hash / 4) (getD (o .densities) (o .n - 4) nan) (getD (o .densities) (o .n - 3) nan) (getD (o .densities) (o .n - 2) nan) (o .density) .1 (_, sym (c .before .before .merge-last .ensures) ∙ c .enum-told .given .1)) }
 
-enum-known-density : tie.Need-enum-known-density Inv-loop μ-loop
-enum-known-density c = search needs
+enum-known-mean : tie.Need-enum-known-mean Inv-loop μ-loop
+enum-known-mean c = search needs
 
 sub-first : tie.Need-sub-first Inv-loop μ-loop
-sub-first c = omega (arith, (quad-four 29 (c .before .before .before .before .before .before .before .before .before .loop .n) (c .before .before .before .before .before .before .before .before .before .loop .zuniqs) (c .before .before .before .before .before .before .before .before .before .loop .depth) (c .before .before .before .before .before .before .before .before .before .loop .hash) (sym (c .before .before .before .before .before .before .are-siblings .ensures) ∙ not-false _ (c .before .before .before .before .before .if1 .left))))
+sub-first c = let o = c .before .before .before .before .before .before .before .before .before .loop in
+    let q = sym (c .before .before .before .before .before .before .are-siblings .ensures) ∙ not-false _ (c .before .before .before .before .before .if1 .left) in
+    let f = quad-four 29 (o .n) (o .zuniqs) (o .depth) (o .hash) q in
+    omega (arith, f)
 
 to-zuniq-unchecked-requires : tie.Need-to-zuniq-unchecked-requires Inv-loop μ-loop
-to-zuniq-unchecked-requires c κs = (let p = parent-zuniq 29 (getD (c .before .before .before .before .before .before .before .before .before .loop .zuniqs) (c .before .before .before .before .before .before .before .before .before .loop .n - 1) 0) (c .before .before .before .before .before .before .before .before .before .loop .depth) (c .before .before .before .before .before .before .before .before .before .loop .hash) (c .before .before .before .before .before .before .before .before .loop-test .taken) (c .before .before .before .before .before .before .before .before .before .loop .inv .3 .top) in (p .deep, p .hash))
+to-zuniq-unchecked-requires c κs = let o = c .before .before .before .before .before .before .before .before .before .loop in
+    let p = parent-zuniq 29 (getD (o .zuniqs) (o .n - 1) 0) (o .depth) (o .hash) (c .before .before .before .before .before .before .before .before .loop-test .taken) (o .inv .3 .top) in
+    (p .deep, p .hash)
 
 mul-zuniqs : tie.Need-mul-zuniqs Inv-loop μ-loop
-mul-zuniqs c = omega (arith, (quad-four 29 (c .before .before .before .before .before .before .before .before .before .before .loop .n) (c .before .before .before .before .before .before .before .before .before .before .loop .zuniqs) (c .before .before .before .before .before .before .before .before .before .before .loop .depth) (c .before .before .before .before .before .before .before .before .before .before .loop .hash) (sym (c .before .before .before .before .before .before .before .are-siblings .ensures) ∙ not-false _ (c .before .before .before .before .before .before .if1 .left))), c .before .before .before .before .before .before .before .before .before .before .loop .inv .3 .stands .zuniqs, c .before .before .before .before .before .before .before .before .before .before .loop .inv .1, c .before .before .before .before .before .before .before .before .before .before .before .before .before .good)
+mul-zuniqs c = let o = c .before .before .before .before .before .before .before .before .before .before .loop in
+    let q = sym (c .before .before .before .before .before .before .before .are-siblings .ensures) ∙ not-false _ (c .before .before .before .before .before .before .if1 .left) in
+    let f = quad-four 29 (o .n) (o .zuniqs) (o .depth) (o .hash) q in
+    omega (arith, f, o .inv .3 .stands .zuniqs, o .inv .1, c .before .before .before .before .before .before .before .before .before .before .before .before .before .good)
 
 slice-write-zuniqs : tie.Need-slice-write-zuniqs Inv-loop μ-loop
-slice-write-zuniqs c = omega (arith, (quad-four 29 (c .before .before .before .before .before .before .before .before .before .before .loop .n) (c .before .before .before .before .before .before .before .before .before .before .loop .zuniqs) (c .before .before .before .before .before .before .before .before .before .before .loop .depth) (c .before .before .before .before .before .before .before .before .before .before .loop .hash) (sym (c .before .before .before .before .before .before .before .are-siblings .ensures) ∙ not-false _ (c .before .before .before .before .before .before .if1 .left))), c .before .before .before .before .before .before .before .before .before .before .loop .inv .3 .stands .zuniqs)
+slice-write-zuniqs c = let o = c .before .before .before .before .before .before .before .before .before .before .loop in
+    let q = sym (c .before .before .before .before .before .before .before .are-siblings .ensures) ∙ not-false _ (c .before .before .before .before .before .before .if1 .left) in
+    let f = quad-four 29 (o .n) (o .zuniqs) (o .depth) (o .hash) q in
+    omega (arith, f, o .inv .3 .stands .zuniqs)
 
 mul-densities : tie.Need-mul-densities Inv-loop μ-loop
-mul-densities c = omega (arith, (quad-four 29 (c .before .before .before .before .before .before .before .before .before .before .loop .n) (c .before .before .before .before .before .before .before .before .before .before .loop .zuniqs) (c .before .before .before .before .before .before .before .before .before .before .loop .depth) (c .before .before .before .before .before .before .before .before .before .before .loop .hash) (sym (c .before .before .before .before .before .before .before .are-siblings .ensures) ∙ not-false _ (c .before .before .before .before .before .before .if1 .left))), c .before .before .before .before .before .before .before .before .before .before .loop .inv .3 .stands .values, c .before .before .before .before .before .before .before .before .before .before .loop .inv .2, c .before .before .before .before .before .before .before .before .before .before .before .before .before .good)
+mul-densities c = let o = c .before .before .before .before .before .before .before .before .before .before .loop in
+    let q = sym (c .before .before .before .before .before .before .before .are-siblings .ensures) ∙ not-false _ (c .before .before .before .before .before .before .if1 .left) in
+    let f = quad-four 29 (o .n) (o .zuniqs) (o .depth) (o .hash) q in
+    omega (arith, f, o .inv .3 .stands .values, o .inv .2, c .before .before .before .before .before .before .before .before .before .before .before .before .before .good)
 
 slice-write-densities : tie.Need-slice-write-densities Inv-loop μ-loop
-slice-write-densities c = omega (arith, (quad-four 29 (c .before .before .before .before .before .before .before .before .before .before .loop .n) (c .before .before .before .before .before .before .before .before .before .before .loop .zuniqs) (c .before .before .before .before .before .before .before .before .before .before .loop .depth) (c .before .before .before .before .before .before .before .before .before .before .loop .hash) (sym (c .before .before .before .before .before .before .before .are-siblings .ensures) ∙ not-false _ (c .before .before .before .before .before .before .if1 .left))), c .before .before .before .before .before .before .before .before .before .before .loop .inv .3 .stands .values)
+slice-write-densities c = let o = c .before .before .before .before .before .before .before .before .before .before .loop in
+    let q = sym (c .before .before .before .before .before .before .before .are-siblings .ensures) ∙ not-false _ (c .before .before .before .before .before .before .if1 .left) in
+    let f = quad-four 29 (o .n) (o .zuniqs) (o .depth) (o .hash) q in
+    omega (arith, f, o .inv .3 .stands .values)
 
 add-n : tie.Need-add-n Inv-loop μ-loop
-add-n c = omega (arith, (quad-four 29 (c .before .before .before .before .before .before .before .before .before .before .loop .n) (c .before .before .before .before .before .before .before .before .before .before .loop .zuniqs) (c .before .before .before .before .before .before .before .before .before .before .loop .depth) (c .before .before .before .before .before .before .before .before .before .before .loop .hash) (sym (c .before .before .before .before .before .before .before .are-siblings .ensures) ∙ not-false _ (c .before .before .before .before .before .before .if1 .left))), c .before .before .before .before .before .before .before .before .before .before .loop .inv .3 .stands .zuniqs, c .before .before .before .before .before .before .before .before .before .before .loop .inv .1, c .before .before .before .before .before .before .before .before .before .before .before .before .before .good)
+add-n c = let o = c .before .before .before .before .before .before .before .before .before .before .loop in
+    let q = sym (c .before .before .before .before .before .before .before .are-siblings .ensures) ∙ not-false _ (c .before .before .before .before .before .before .if1 .left) in
+    let f = quad-four 29 (o .n) (o .zuniqs) (o .depth) (o .hash) q in
+    omega (arith, f, o .inv .3 .stands .zuniqs, o .inv .1, c .before .before .before .before .before .before .before .before .before .before .before .before .before .good)
 
 loop-less : tie.Need-loop-less Inv-loop μ-loop
 loop-less c = search needs
 
 loop-again : tie.Need-loop-again Inv-loop μ-loop
-loop-again c = let x = c .before .before .density .given .0 .0 in
+loop-again c = let o = c .before .before .before .before .before .before .before .before .before .before .loop in
+    let a = c .before .before .before .before .before .before .before .before .before .before .before .before .before .args in
+    let q = sym (c .before .before .before .before .before .before .before .are-siblings .ensures) ∙ not-false _ (c .before .before .before .before .before .before .if1 .left) in
+    let f = quad-four 29 (o .n) (o .zuniqs) (o .depth) (o .hash) q in
+    let x = c .before .before .mean .given .0 .0 in
     let z = c .to-zuniq-unchecked .result in
-    let a = accept-densities-iff-merged (c .before .before .before .before .before .before .before .before .before .before .before .before .before .args .depth-threshold) (c .before .before .before .before .before .before .before .before .before .before .before .before .before .args .chi2-threshold) (c .before .before .before .before .before .before .before .before .before .before .loop .depth - 1) (c .before .before .before .before .before .before .before .before .before .before .loop .hash / 4) (getD (c .before .before .before .before .before .before .before .before .before .before .loop .densities) (c .before .before .before .before .before .before .before .before .before .before .loop .n - 4) nan) (getD (c .before .before .before .before .before .before .before .before .before .before .loop .densities) (c .before .before .before .before .before .before .before .before .before .before .loop .n - 3) nan) (getD (c .before .before .before .before .before .before .before .before .before .before .loop .densities) (c .before .before .before .before .before .before .before .before .before .before .loop .n - 2) nan) (getD (c .before .before .before .before .before .before .before .before .before .before .loop .densities) (c .before .before .before .before .before .before .before .before .before .before .loop .n - 1) nan) x .1 (sym (c .before .before .before .before .merge-last .ensures) ∙ c .before .before .density .given .1) in
-    let t = turns (acceptDensities (c .before .before .before .before .before .before .before .before .before .before .before .before .before .args .depth-threshold) (c .before .before .before .before .before .before .before .before .before .before .before .before .before .args .chi2-threshold)) 29 nan (collapse (acceptDensities (c .before .before .before .before .before .before .before .before .before .before .before .before .before .args .depth-threshold) (c .before .before .before .before .before .before .before .before .before .before .before .before .before .args .chi2-threshold)) (held 29 (c .before .before .before .before .before .before .before .before .before .before .before .before .before .args .len) (c .before .before .before .before .before .before .before .before .before .before .before .before .before .args .zuniqs .now) (c .before .before .before .before .before .before .before .before .before .before .before .before .before .args .densities .now))) (c .before .before .before .before .before .before .before .before .before .before .loop .n) (c .before .before .before .before .before .before .before .before .before .before .loop .depth) (c .before .before .before .before .before .before .before .before .before .before .loop .hash) (c .before .before .before .before .before .before .before .before .before .before .loop .zuniqs) (c .before .before .before .before .before .before .before .before .before .before .loop .densities) (c .before .before .before .before .before .before .before .before .before .before .loop .inv .3) x z (c .before .before .before .before .before .before .before .before .before .loop-test .taken) (quad-four 29 (c .before .before .before .before .before .before .before .before .before .before .loop .n) (c .before .before .before .before .before .before .before .before .before .before .loop .zuniqs) (c .before .before .before .before .before .before .before .before .before .before .loop .depth) (c .before .before .before .before .before .before .before .before .before .before .loop .hash) (sym (c .before .before .before .before .before .before .before .are-siblings .ensures) ∙ not-false _ (c .before .before .before .before .before .before .if1 .left))) (c .to-zuniq-unchecked .ensures) (sym (c .before .before .before .before .before .before .before .are-siblings .ensures) ∙ not-false _ (c .before .before .before .before .before .before .if1 .left)) a in
-    (omega (arith, (quad-four 29 (c .before .before .before .before .before .before .before .before .before .before .loop .n) (c .before .before .before .before .before .before .before .before .before .before .loop .zuniqs) (c .before .before .before .before .before .before .before .before .before .before .loop .depth) (c .before .before .before .before .before .before .before .before .before .before .loop .hash) (sym (c .before .before .before .before .before .before .before .are-siblings .ensures) ∙ not-false _ (c .before .before .before .before .before .before .if1 .left))), c .before .before .before .before .before .before .before .before .before .before .loop .inv .0), length-set (c .before .before .before .before .before .before .before .before .before .before .loop .zuniqs) (c .before .before .before .before .before .before .before .before .before .before .loop .n - 4) z ∙ c .before .before .before .before .before .before .before .before .before .before .loop .inv .1, length-set (c .before .before .before .before .before .before .before .before .before .before .loop .densities) (c .before .before .before .before .before .before .before .before .before .before .loop .n - 4) x ∙ c .before .before .before .before .before .before .before .before .before .before .loop .inv .2, t)
+    let m = accept-densities-iff-merged (a .depth-threshold) (a .chi2-threshold) (o .depth - 1) (o .hash / 4) (getD (o .densities) (o .n - 4) nan) (getD (o .densities) (o .n - 3) nan) (getD (o .densities) (o .n - 2) nan) (o .density) x .1 (sym (c .before .before .before .before .merge-last .ensures) ∙ c .before .before .mean .given .1) in
+    let t = turns (acceptDensities (a .depth-threshold) (a .chi2-threshold)) 29 nan _ (o .n) (o .depth) (o .hash) (o .density) (o .zuniqs) (o .densities) (o .inv .3) x z (c .before .before .before .before .before .before .before .before .before .loop-test .taken) f (c .to-zuniq-unchecked .ensures) q m in
+    (omega (arith, f, o .inv .0), length-set (o .zuniqs) (o .n - 4) z ∙ o .inv .1, length-set (o .densities) (o .n - 4) x ∙ o .inv .2, t)
 
 same-length-5 : tie.Need-same-length-5 Inv-loop μ-loop
 same-length-5 c = c .before .loop .inv .1
@@ -97,7 +129,9 @@ same-length-6 : tie.Need-same-length-6 Inv-loop μ-loop
 same-length-6 c = c .before .loop .inv .2
 
 returns-3 : tie.Need-returns-3 Inv-loop μ-loop
-returns-3 c = record { stands = c .before .loop .inv .3 .stands; least = c .before .loop .inv .0; is = turning-ends (acceptDensities (c .before .before .before .before .args .depth-threshold) (c .before .before .before .before .args .chi2-threshold)) 29 nan (collapse (acceptDensities (c .before .before .before .before .args .depth-threshold) (c .before .before .before .before .args .chi2-threshold)) (held 29 (c .before .before .before .before .args .len) (c .before .before .before .before .args .zuniqs .now) (c .before .before .before .before .args .densities .now))) (c .before .loop .n) (c .before .loop .depth) (c .before .loop .hash) (c .before .loop .zuniqs) (c .before .loop .densities) (c .before .loop .inv .3) (omega arith) }
+returns-3 c = let o = c .before .loop in
+    let a = c .before .before .before .before .args in
+    record { stands = o .inv .3 .stands; least = o .inv .0; is = turning-ends (acceptDensities (a .depth-threshold) (a .chi2-threshold)) 29 nan _ (o .n) (o .depth) (o .hash) (o .density) (o .zuniqs) (o .densities) (o .inv .3) (omega arith) }
 
 pub collapse-spec : {M : Type 1} → statement M
 collapse-spec =
@@ -116,7 +150,7 @@ collapse-spec =
     same-length-3
     same-length-4
     returns-2
-    enum-known-density
+    enum-known-mean
     sub-first
     to-zuniq-unchecked-requires
     mul-zuniqs

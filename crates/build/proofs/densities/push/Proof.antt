@@ -1,47 +1,21 @@
 -- `densities::push` meets its contract. Assumes nothing.
-use mathlib.Core.Path.{refl, _∙_}
+use mathlib.Core.Path.{refl, sym, _∙_}
 use native.Mathlib.Omega.{arith}
-use Rattle.build.proofs.Places.{stored, put-front}
+use lib.Ieee.{nan}
 use borrow.Author.Needs.{needs}
-use borrow.Author.Needs.{needs}
+use Rattle.merger.specs.Merge.{acceptDensities}
+use Rattle.build.specs.Map.{entry}
+use Rattle.build.specs.Buffers.{held}
+use Rattle.build.proofs.Places.{stored}
+use Rattle.build.proofs.Siblings.{collapse-no-fourth}
 use Rattle.build.proofs.densities.push.Statement.{statement}
 use Rattle.build.proofs.densities.push.Tie as tie
 
-mul-put-zuniq : tie.Need-mul-put-zuniq
-mul-put-zuniq c = search needs
+append-requires : tie.Need-append-requires
+append-requires c κs = search needs
 
-sub-put-zuniq : tie.Need-sub-put-zuniq
-sub-put-zuniq c = search needs
-
-part-put-zuniq-start : tie.Need-part-put-zuniq-start
-part-put-zuniq-start c = search needs
-
-part-put-zuniq-end : tie.Need-part-put-zuniq-end
-part-put-zuniq-end c = search needs
-
-put-zuniq-requires : tie.Need-put-zuniq-requires
-put-zuniq-requires c κs = search needs
-
-mul-put-density : tie.Need-mul-put-density
-mul-put-density c = search needs
-
-sub-put-density : tie.Need-sub-put-density
-sub-put-density c = search needs
-
-part-put-density-start : tie.Need-part-put-density-start
-part-put-density-start c = search needs
-
-part-put-density-end : tie.Need-part-put-density-end
-part-put-density-end c = search needs
-
-put-density-requires : tie.Need-put-density-requires
-put-density-requires c κs = search needs
-
-add-collapse : tie.Need-add-collapse
-add-collapse c = search needs
-
-collapse-requires : tie.Need-collapse-requires
-collapse-requires c κs = let a = c .before .before .before .before .before .before .before .before .before .before .before .before .args in let p = c .before .before .before .before .before .before .before .before .before .before .before .before .pre in let s = stored 29 (a .n) (a .zuniq) (a .depth) (a .hash) (a .density) (a .zuniqs .now) (a .densities .now) _ _ (p .0) (p .1) (p .2) (p .3) (put-front (a .n) (a .zuniqs .now) _ (a .zuniq) (p .1) (c .before .before .before .before .before .before .before .before .put-zuniq .ensures)) (put-front (a .n) (a .densities .now) _ (a .density) (p .2) (c .before .before .before .before .put-density .ensures)) in (omega arith, s .stands, s .top)
+add-result : tie.Need-add-result
+add-result c = search needs
 
 same-length : tie.Need-same-length
 same-length c = search needs
@@ -50,24 +24,44 @@ same-length-2 : tie.Need-same-length-2
 same-length-2 c = search needs
 
 returns : tie.Need-returns
-returns c = let a = c .before .before .before .before .before .before .before .before .before .before .before .before .before .before .before .before .before .args in let p = c .before .before .before .before .before .before .before .before .before .before .before .before .before .before .before .before .before .pre in let s = stored 29 (a .n) (a .zuniq) (a .depth) (a .hash) (a .density) (a .zuniqs .now) (a .densities .now) _ _ (p .0) (p .1) (p .2) (p .3) (put-front (a .n) (a .zuniqs .now) _ (a .zuniq) (p .1) (c .before .before .before .before .before .before .before .before .before .before .before .before .before .put-zuniq .ensures)) (put-front (a .n) (a .densities .now) _ (a .density) (p .2) (c .before .before .before .before .before .before .before .before .before .put-density .ensures)) in let e = c .before .before .before .before .collapse .ensures in record { stands = e .stands; least = e .least; is = e .is ∙ rw (s .map-is) refl }
+returns c = let a = c .before .before .before .before .before .before .before .before .before .before .args in
+    let p = c .before .before .before .before .before .before .before .before .before .before .pre in
+    let s = stored 29 (a .n) (a .zuniq) (a .depth) (a .hash) (a .density) (a .zuniqs .now) (a .densities .now) _ _ (p .0) (p .1) (p .2) (p .3) (c .before .before .before .before .before .append .ensures .0) (c .before .before .before .before .before .append .ensures .1) in
+    record { stands = s .stands; least = omega arith; is = s .map-is ∙ sym (collapse-no-fourth (acceptDensities (a .depth-threshold) (a .chi2-threshold)) (entry (a .depth) (a .hash) (a .density)) (held 29 (a .n) (a .zuniqs .now) (a .densities .now)) (c .if1 .taken)) }
+
+add-collapse : tie.Need-add-collapse
+add-collapse c = search needs
+
+collapse-requires : tie.Need-collapse-requires
+collapse-requires c κs = let a = c .before .before .before .before .before .before .before .before .before .before .before .before .args in
+    let p = c .before .before .before .before .before .before .before .before .before .before .before .before .pre in
+    let s = stored 29 (a .n) (a .zuniq) (a .depth) (a .hash) (a .density) (a .zuniqs .now) (a .densities .now) _ _ (p .0) (p .1) (p .2) (p .3) (c .before .before .before .before .before .before .before .append .ensures .0) (c .before .before .before .before .before .before .before .append .ensures .1) in
+    (omega arith, s .stands, s .top, s .value nan)
+
+same-length-3 : tie.Need-same-length-3
+same-length-3 c = search needs
+
+same-length-4 : tie.Need-same-length-4
+same-length-4 c = search needs
+
+returns-2 : tie.Need-returns-2
+returns-2 c = let a = c .before .before .before .before .before .before .before .before .before .before .before .before .before .before .before .before .before .args in
+    let p = c .before .before .before .before .before .before .before .before .before .before .before .before .before .before .before .before .before .pre in
+    let s = stored 29 (a .n) (a .zuniq) (a .depth) (a .hash) (a .density) (a .zuniqs .now) (a .densities .now) _ _ (p .0) (p .1) (p .2) (p .3) (c .before .before .before .before .before .before .before .before .before .before .before .before .append .ensures .0) (c .before .before .before .before .before .before .before .before .before .before .before .before .append .ensures .1) in
+    let e = c .before .before .before .before .collapse .ensures in
+    record { stands = e .stands; least = e .least; is = e .is ∙ rw (s .map-is) refl }
 
 pub push-spec : {M : Type 1} → statement M
 push-spec =
     tie.close
     (tie.spec
-    mul-put-zuniq
-    sub-put-zuniq
-    part-put-zuniq-start
-    part-put-zuniq-end
-    put-zuniq-requires
-    mul-put-density
-    sub-put-density
-    part-put-density-start
-    part-put-density-end
-    put-density-requires
-    add-collapse
-    collapse-requires
+    append-requires
+    add-result
     same-length
     same-length-2
-    returns)
+    returns
+    add-collapse
+    collapse-requires
+    same-length-3
+    same-length-4
+    returns-2)
