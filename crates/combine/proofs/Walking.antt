@@ -109,6 +109,13 @@ module _ {A C : Type 0} {split : Split A} {rule : Rule A} {asEntry : C → Entry
         go none k = tt
         go (some a) k = k a refl
 
+    -- No head has been used up.
+    pub left-stays : l .taken ≡ false
+    left-stays = ap (λ (s : At C). s .taken) (w .fresh-left)
+
+    pub right-stays : r .taken ≡ false
+    right-stays = ap (λ (s : At C). s .taken) (w .fresh-right)
+
     -- At the end all has been kept that the rule keeps.
     pub ready-ends : Turned asEntry 29 (l .head) (r .head) ends → Wrote (keptCells split rule lz lv rz rv)
     ready-ends t = subst (λ (o : List (Entry (Seen A))). Wrote (kept rule o)) (state-ends split asEntry blank zuniqIn 29 (from lz lv) (from rz rv) done lp rp _ _ _ _ _ _ (w .walking .state) t) (w .walking .wrote)

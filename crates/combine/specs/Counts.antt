@@ -36,7 +36,9 @@ sawOf (LhsRhsBoth.Right b) = sawRight b
 sawOf (LhsRhsBoth.Both a b) = sawBoth a b
 
 abbrev pub actOf : Turn → Act Dhzv
-actOf (Turn.Show s) = shows (sawOf s)
+actOf (Turn.Left a) = shows (sawLeft a)
+actOf (Turn.Right b) = shows (sawRight b)
+actOf (Turn.Both a b) = shows (sawBoth a b)
 actOf (Turn.OpenLeft a) = opensLeft a
 actOf (Turn.OpenRight b) = opensRight b
 actOf Turn.Stop = ends

@@ -11,7 +11,7 @@ ghost use Prim.Native.Nat.{_+_, _-_, _≤_, _<_};
 ghost use Rattle.merger.specs.Merge.{acceptCounts};
 ghost use Rattle.build.specs.Counts.{totalOf};
 ghost use Rattle.combine.specs.Rules.{splitCount};
-ghost use Rattle.combine.specs.Heads.{sideStart, opened, takesLeft, takesRight, Shallow, Turned, zuniqShown, Good, ChildOf, EntryAt, Advanced};
+ghost use Rattle.combine.specs.Heads.{sideStart, opened, Shallow, Turned, zuniqShown, Good, ChildOf, EntryAt, Advanced};
 ghost use Rattle.combine.specs.Slices.{entriesOf, Holds, Outcome, Room, CanKeep};
 ghost use Rattle.combine.specs.Counts.{asEntry, zuniqIn, headOf, sideOf, sawOf, actOf, pooled, poolCells, TotalFits};
 use crate::Pass;
@@ -61,7 +61,9 @@ pub struct Side {
 
 // What a turn of the walk does.
 pub enum Turn {
-    Show(LhsRhsBoth),
+    Left(Dhzv),
+    Right(Dhzv),
+    Both(Dhzv, Dhzv),
     OpenLeft(Dhzv),
     OpenRight(Dhzv),
     Stop,
@@ -88,16 +90,22 @@ pub(crate) fn pool_cells(
     let mut right = start();
     let mut n: usize = 0;
     loop {
-        let top = last_pending(left);
-        left = next(left, lefts[top], left_zuniqs, left_counts);
-        let top = last_pending(right);
-        right = next(right, rights[top], right_zuniqs, right_counts);
+        left = next(left, lefts[top(left)], left_zuniqs, left_counts);
+        right = next(right, rights[top(right)], right_zuniqs, right_counts);
         match turn_of(left, right) {
             Turn::Stop => return n,
-            Turn::Show(seen) => {
-                n = keep(pass, pool(seen), zuniqs, counts, n);
-                left.taken = takes_left(seen);
-                right.taken = takes_right(seen);
+            Turn::Left(a) => {
+                n = keep(pass, pool(LhsRhsBoth::Left(a)), zuniqs, counts, n);
+                left.taken = true;
+            }
+            Turn::Right(b) => {
+                n = keep(pass, pool(LhsRhsBoth::Right(b)), zuniqs, counts, n);
+                right.taken = true;
+            }
+            Turn::Both(a, b) => {
+                n = keep(pass, pool(LhsRhsBoth::Both(a, b)), zuniqs, counts, n);
+                left.taken = true;
+                right.taken = true;
             }
             Turn::OpenLeft(outer) => {
                 let free = left.pending;
@@ -170,7 +178,7 @@ fn start() -> Side
 }
 
 // The place of the pending cell that comes first, if there is one.
-fn last_pending(side: Side) -> usize
+fn top(side: Side) -> usize
     ensures { λ r. ⌜ r ≡ side .pending - 1 ⌝ }
 {
     if side.pending > 0 {
@@ -243,10 +251,10 @@ fn turn_of(left: Side, right: Side) -> Turn
     match l {
         Head::End => match r {
             Head::End => Turn::Stop,
-            Head::Cell(b) => Turn::Show(LhsRhsBoth::Right(b)),
+            Head::Cell(b) => Turn::Right(b),
         },
         Head::Cell(a) => match r {
-            Head::End => Turn::Show(LhsRhsBoth::Left(a)),
+            Head::End => Turn::Left(a),
             Head::Cell(b) => meet(a, b),
         },
     }
@@ -260,44 +268,24 @@ fn meet(a: Dhzv, b: Dhzv) -> Turn
     if a.depth <= b.depth {
         let ancestor = b.hash >> (Zuniq64::DIM * (b.depth - a.depth));
         if a.hash < ancestor {
-            return Turn::Show(LhsRhsBoth::Left(a));
+            return Turn::Left(a);
         }
         if ancestor < a.hash {
-            return Turn::Show(LhsRhsBoth::Right(b));
+            return Turn::Right(b);
         }
         if a.depth < b.depth {
             return Turn::OpenLeft(a);
         }
-        return Turn::Show(LhsRhsBoth::Both(a, b));
+        return Turn::Both(a, b);
     }
     let ancestor = a.hash >> (Zuniq64::DIM * (a.depth - b.depth));
     if ancestor < b.hash {
-        return Turn::Show(LhsRhsBoth::Left(a));
+        return Turn::Left(a);
     }
     if b.hash < ancestor {
-        return Turn::Show(LhsRhsBoth::Right(b));
+        return Turn::Right(b);
     }
     Turn::OpenRight(b)
-}
-
-fn takes_left(seen: LhsRhsBoth) -> bool
-    ensures { λ r. ⌜ r ≡ takesLeft (sawOf seen) ⌝ }
-{
-    match seen {
-        LhsRhsBoth::Left(_) => true,
-        LhsRhsBoth::Right(_) => false,
-        LhsRhsBoth::Both(_, _) => true,
-    }
-}
-
-fn takes_right(seen: LhsRhsBoth) -> bool
-    ensures { λ r. ⌜ r ≡ takesRight (sawOf seen) ⌝ }
-{
-    match seen {
-        LhsRhsBoth::Left(_) => false,
-        LhsRhsBoth::Right(_) => true,
-        LhsRhsBoth::Both(_, _) => true,
-    }
 }
 
 // The side whose head has been split: its first child is the head, and the other three are pending.
