@@ -10,7 +10,7 @@ use Rattle.build.specs.Map.{Entry, Merger}
 use Rattle.build.specs.Promises.{Sums}
 use Rattle.build.specs.Counts.{totalOf}
 use Rattle.combine.specs.Rules.{kept, splitCount, poolRule}
-use Rattle.combine.specs.Heads.{At, used, takesLeft, takesRight, shows, Turned, zuniqShown}
+use Rattle.combine.specs.Heads.{At, used, shows, Turned, zuniqShown}
 use Rattle.combine.specs.Slices.{entriesOf, Holds, Outcome, Room, CanKeep}
 use Rattle.combine.specs.Counts.{asEntry, zuniqIn, sawOf, pooled, poolCells, TotalFits}
 use Rattle.combine.specs.declared.Pass.{Pass}
@@ -19,6 +19,7 @@ use Rattle.combine.specs.declared.counts.LhsRhsBoth.{LhsRhsBoth}
 use Rattle.combine.proofs.Kept.{kept-pool-total}
 use Rattle.combine.proofs.Outcomes.{Wrote, wrote-next, total-append, wrote-total}
 use Rattle.combine.proofs.Shown.{shown-can-keep}
+use Rattle.combine.proofs.State.{takesLeft, takesRight}
 use Rattle.combine.proofs.Walking.{Walking, Ready, ready-shown, shown-part}
 
 abbrev pub blank : Dhzv

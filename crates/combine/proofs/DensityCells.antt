@@ -9,17 +9,18 @@ use lib.ListN.{length}
 use Rattle.merger.specs.Merge.{acceptDensities}
 use Rattle.build.specs.Map.{Entry}
 use Rattle.combine.specs.Overlay.{someEntry}
-use Rattle.combine.specs.Rules.{keptOf, kept, copyDensity, productRule}
-use Rattle.combine.specs.Heads.{At, used, takesLeft, takesRight, shows, shownAs, Turned}
+use Rattle.combine.specs.Rules.{keptOf, copyDensity, productRule}
+use Rattle.combine.specs.Heads.{At, used, shows, shownAs, Turned}
 use Rattle.combine.specs.Slices.{Room}
-use Rattle.combine.specs.Densities.{asEntry, zuniqIn, sawOf, cellsOf, Carries, productCells, notFinite, someNotFinite, CanKeepCells, CellsOutcome}
+use Rattle.combine.specs.Densities.{asEntry, zuniqIn, sawOf, productCells, notFinite, someNotFinite, CanShow, CellsOutcome}
 use Rattle.combine.specs.declared.Pass.{Pass}
 use Rattle.combine.specs.declared.densities.Dhzv.{Dhzv}
 use Rattle.combine.specs.declared.densities.LhsRhsBoth.{LhsRhsBoth}
 use Rattle.combine.specs.declared.densities.Answer.{Answer}
 use Rattle.combine.specs.declared.densities.Cells.{Cells}
 use Rattle.combine.proofs.Outcomes.{Wrote, wrote-nothing, wrote-next, wrote-untouched, wrote-stands}
-use Rattle.combine.proofs.Walking.{Walking, Ready, ready-shown, shown-part}
+use Rattle.combine.proofs.State.{takesLeft, takesRight}
+use Rattle.combine.proofs.Walking.{Walking, Ready, ready-shown}
 use Rattle.combine.proofs.Shown.{shown-can-keep}
 
 -- what is read past the end of an array
@@ -50,45 +51,41 @@ unfolding someEntry
 not-finite-append [] m = refl
 not-finite-append (e ∷ l) m = ap (λ (b : Bool). notFinite (e .value) || b) (not-finite-append l m) ∙ sym (or-assoc (notFinite (e .value)) (someNotFinite l) (someNotFinite m))
 
--- The cells have been counted or merged, and are finite.
-pub record WroteFinite (pass : Pass) (zs₀ : List ℕ) (vs₀ : List Float) (n : ℕ) (zs : List ℕ) (vs : List Float) (cells : List (Entry Float)) : Type 0 where
-  pub wrote : Wrote pass acceptDensities zs₀ vs₀ n zs vs cells
-  pub finite : someNotFinite cells ≡ false
+-- The cells have been counted or merged into buffers that keep their lengths, or one of them is not finite.
+pub record WroteCells (pass : Pass) (zs₀ : List ℕ) (vs₀ : List Float) (c : Cells) (zs : List ℕ) (vs : List Float) (cells : List (Entry Float)) : Type 0 where
+  pub outcome : CellsOutcome pass 0 cells zs₀ vs₀ c zs vs
+  pub zuniqs : length zs ≡ length zs₀
+  pub values : length vs ≡ length vs₀
 
-pub wrote-no-density : (pass : Pass) (zs : List ℕ) (vs : List Float) → WroteFinite pass zs vs 0 zs vs []
-wrote-no-density pass zs vs = record { wrote = wrote-nothing acceptDensities pass zs vs; finite = no-cell-finite }
+pub wrote-no-density : (pass : Pass) (zs : List ℕ) (vs : List Float) → WroteCells pass zs vs (Cells.Number 0) zs vs []
+wrote-no-density pass zs vs = record { outcome = (no-cell-finite, wrote-nothing acceptDensities pass zs vs .outcome); zuniqs = refl; values = refl }
+
+module _ {pass : Pass} {zs₀ : List ℕ} {vs₀ : List Float} {zs : List ℕ} {vs : List Float} {cells : List (Entry Float)} where
+  -- One cell that is not finite settles what is answered of all.
+  pub wrote-not-finite : {c : Cells} (o all : List (Entry Float)) → c ≡ Cells.NotFinite → WroteCells pass zs₀ vs₀ c zs vs cells → cells ++ o ≡ all → CellsOutcome pass 0 all zs₀ vs₀ c zs vs
+  wrote-not-finite o all q w e =
+      let b = subst (λ (c : Cells). CellsOutcome pass 0 cells zs₀ vs₀ c zs vs) q (w .outcome) in
+      rw q (ap someNotFinite (sym e) ∙ rw (not-finite-append cells o, b .0), b .1)
+
+  module _ {n : ℕ} (w : WroteCells pass zs₀ vs₀ (Cells.Number n) zs vs cells) where
+    wrote : Wrote pass acceptDensities zs₀ vs₀ n zs vs cells
+    wrote = record { outcome = w .outcome .1; zuniqs = w .zuniqs; values = w .values }
+
+    cells-next : (l : List (Entry Float)) (c : Cells) (zs′ : List ℕ) (vs′ : List Float) → CellsOutcome pass n l zs vs c zs′ vs′ → length zs′ ≡ length zs → length vs′ ≡ length vs → CellsOutcome pass 0 (cells ++ l) zs₀ vs₀ c zs′ vs′
+    cells-next l (Cells.Number r) zs′ vs′ o p q = (rw (not-finite-append cells l, w .outcome .0) (o .0), wrote-next l wrote (o .1) p q .outcome)
+    cells-next l Cells.NotFinite zs′ vs′ o p q = (rw (not-finite-append cells l, w .outcome .0) (o .0), wrote-untouched zs′ vs′ wrote (o .1))
 
 -- ---- a cell that is shown
 module _ {k : Float} {lz : List ℕ} {lv : List Float} {rz : List ℕ} {rv : List Float} {zs₀ : List ℕ} {vs₀ : List Float} {zs : List ℕ} {vs : List Float} {pass : Pass} {n m : ℕ} {l r : At Dhzv} {lp rp : List Dhzv}
-    (w : Ready copyDensity (productRule k) asEntry blank zuniqIn lz lv rz rv (WroteFinite pass zs₀ vs₀ n zs vs) l r lp rp m)
+    (w : Ready copyDensity (productRule k) asEntry blank zuniqIn lz lv rz rv (WroteCells pass zs₀ vs₀ (Cells.Number n) zs vs) l r lp rp m)
     (s : LhsRhsBoth) (t : Turned asEntry 29 (l .head) (r .head) (shows (sawOf s))) where
-  abbrev cells : List (Entry Float)
-  cells = kept (productRule k) (w .walking .done)
-
-  abbrev shownCells : List (Entry Float)
-  shownCells = keptOf (productRule k) (shownAs asEntry (sawOf s))
-
   -- What the rule answers can be kept.
-  pub shown-keeps : Room pass (productCells k lz lv rz rv) zs₀ vs₀ → (a : Answer) → cellsOf a ≡ shownCells → Carries (sawOf s) a → CanKeepCells pass n a zs vs
-  shown-keeps room (Answer.Kept c) e z = shown-can-keep w (w .walking .wrote .wrote) room (sawOf s) t (zuniqIn c) z (asEntry c) (sym e)
-  shown-keeps room Answer.Dropped e z = wrote-stands (w .walking .wrote .wrote)
+  pub shown-keeps : Room pass (productCells k lz lv rz rv) zs₀ vs₀ → CanShow pass k n (sawOf s) zs vs
+  shown-keeps room (Answer.Kept c) e z = shown-can-keep w (wrote (w .walking .wrote)) room (sawOf s) t (zuniqIn c) z (asEntry c) (sym e)
+  shown-keeps room Answer.Dropped e z = wrote-stands (wrote (w .walking .wrote))
 
-  module _ (zs′ : List ℕ) (vs′ : List Float) (a : Answer) (e : cellsOf a ≡ shownCells) (c : Cells) (o : CellsOutcome pass n (cellsOf a) zs vs c zs′ vs′) where
-    -- It is counted or pushed, and the heads that it takes are used up.
-    pub shown-kept : {tl tr : Bool} (n′ : ℕ) → c ≡ Cells.Number n′ → length zs′ ≡ length zs → length vs′ ≡ length vs → tl ≡ takesLeft (sawOf s) → tr ≡ takesRight (sawOf s)
-        → Walking copyDensity (productRule k) asEntry blank zuniqIn lz lv rz rv (WroteFinite pass zs₀ vs₀ n′ zs′ vs′) (used tl l) (used tr r) lp rp
-    shown-kept n′ q u v f g =
-        let b = subst (λ (c : Cells). CellsOutcome pass n (cellsOf a) zs vs c zs′ vs′) q o in
-        ready-shown w (sawOf s) t (WroteFinite pass zs₀ vs₀ n′ zs′ vs′) f g (λ d k.
-        subst (λ (c : List (Entry Float)). WroteFinite pass zs₀ vs₀ n′ zs′ vs′ (d ++ c)) e
-        (record { wrote = wrote-next (cellsOf a) (k .wrote) (b .1) u v; finite = rw (not-finite-append d (cellsOf a), k .finite) (b .0) }))
-
-    -- A cell that is not finite is one of those that the rule keeps.
-    pub shown-not-finite : c ≡ Cells.NotFinite → CellsOutcome pass 0 (productCells k lz lv rz rv) zs₀ vs₀ Cells.NotFinite zs′ vs′
-    shown-not-finite q =
-        let b = subst (λ (c : Cells). CellsOutcome pass n (cellsOf a) zs vs c zs′ vs′) q o in
-        let p = shown-part w (sawOf s) t in (
-          ap someNotFinite (sym (p .1)) ∙ not-finite-append (cells ++ shownCells) (p .0)
-              ∙ rw (not-finite-append cells shownCells, ← e, b .0, w .walking .wrote .finite),
-          wrote-untouched zs′ vs′ (w .walking .wrote .wrote) (b .1),
-        )
+  -- It is counted or pushed, or is not finite, and the heads that it takes are used up.
+  pub shown-kept : {zs′ : List ℕ} {vs′ : List Float} {tl tr : Bool} (c : Cells) → CellsOutcome pass n (keptOf (productRule k) (shownAs asEntry (sawOf s))) zs vs c zs′ vs′ → length zs′ ≡ length zs → length vs′ ≡ length vs
+      → tl ≡ takesLeft (sawOf s) → tr ≡ takesRight (sawOf s) → Walking copyDensity (productRule k) asEntry blank zuniqIn lz lv rz rv (WroteCells pass zs₀ vs₀ c zs′ vs′) (used tl l) (used tr r) lp rp
+  shown-kept {zs′} {vs′} c o p q f g =
+      ready-shown w (sawOf s) t (WroteCells pass zs₀ vs₀ c zs′ vs′) f g (λ d k. record { outcome = cells-next k _ c zs′ vs′ o p q; zuniqs = p ∙ k .zuniqs; values = q ∙ k .values })

@@ -1,7 +1,7 @@
 -- The state of the walk as code keeps it, two sides and what has been shown, and what a turn does to it. Over any type of the
 -- code's cells. Assumes nothing.
 use mathlib.Core.Path.{_≡_, refl, ap, sym, _∙_, subst}
-use mathlib.Core.Bool.{true, false}
+use mathlib.Core.Bool.{Bool, true, false}
 use mathlib.Core.List.{List, [], _∷_, _++_, append-assoc, append-nil}
 use mathlib.Core.Option.{Option, none, some}
 use Prim.Native.Nat.{ℕ, _+_, _<_}
@@ -13,10 +13,21 @@ use Rattle.build.proofs.Entries.{entry-is}
 use Rattle.build.proofs.Rising.{rises-from}
 use Rattle.combine.specs.Overlay.{Seen, Split, overlay}
 use Rattle.combine.specs.Walk.{Before, Inner}
-use Rattle.combine.specs.Heads.{Saw, sawLeft, sawRight, sawBoth, shows, ends, At, sideAt, used, takesLeft, takesRight, shownAs, Ahead, Turned, ChildOf}
+use Rattle.combine.specs.Heads.{Saw, sawLeft, sawRight, sawBoth, shows, ends, At, sideAt, used, shownAs, Ahead, Turned, ChildOf}
 use Rattle.combine.proofs.Turns.{rises-open, overlay-open-left, overlay-open-right}
 use Rattle.combine.proofs.Walk.{overlay-nil, overlay-give-left, overlay-give-right, overlay-give-both}
 use Rattle.combine.proofs.Sides.{pending, pushed, toCome, Side, Filled, side-taken, open-side, open-to-come}
+
+-- whose head is used up when a cell is shown
+abbrev pub takesLeft : {C : Type 0} → Saw C → Bool
+takesLeft (sawLeft a) = true
+takesLeft (sawRight b) = false
+takesLeft (sawBoth a b) = true
+
+abbrev pub takesRight : {C : Type 0} → Saw C → Bool
+takesRight (sawLeft a) = false
+takesRight (sawRight b) = true
+takesRight (sawBoth a b) = true
 
 module _ {A C : Type 0} (split : Split A) (asEntry : C → Entry A) (blank : C) (zuniqIn : C → ℕ) (K : ℕ) where
   -- A side without a head is at its end.

@@ -13,11 +13,11 @@ use Rattle.build.specs.Map.{Entry}
 use Rattle.combine.specs.Overlay.{Seen, Split, overlay}
 use Rattle.combine.specs.Rules.{Rule, keptOf, kept}
 use Rattle.combine.specs.Walk.{weight}
-use Rattle.combine.specs.Heads.{Saw, sawLeft, sawRight, sawBoth, shows, opensLeft, opensRight, ends, At, sideAt, sideStart, used, opened, takesLeft, takesRight, Shallow, shownAs, Turned, zuniqShown, Good, ChildOf, Advanced}
+use Rattle.combine.specs.Heads.{Saw, sawLeft, sawRight, sawBoth, shows, opensLeft, opensRight, ends, At, sideAt, sideStart, used, opened, Shallow, shownAs, Turned, zuniqShown, Good, ChildOf, Advanced}
 use Rattle.combine.specs.Slices.{entriesOf, Holds}
 use Rattle.combine.proofs.Walk.{weight-open}
 use Rattle.combine.proofs.Sides.{from, pending, AllGood, pushed, toCome, filled, open-room, open-to-come}
-use Rattle.combine.proofs.State.{State, state-filled, state-shown, state-ends, state-open-left, state-open-right}
+use Rattle.combine.proofs.State.{takesLeft, takesRight, State, state-filled, state-shown, state-ends, state-open-left, state-open-right}
 
 -- What a rule keeps of one list behind another.
 kept-append : {A : Type 0} (rule : Rule A) (o p : List (Entry (Seen A))) → kept rule (o ++ p) ≡ kept rule o ++ kept rule p
@@ -32,6 +32,13 @@ kept-next rule o e = kept-append rule o (e ∷ []) ∙ ap (λ l. kept rule o ++ 
 -- all that the rule keeps of two maps
 abbrev pub keptCells : {A : Type 0} → Split A → Rule A → List ℕ → List A → List ℕ → List A → List (Entry A)
 keptCells split rule lz lv rz rv = kept rule (overlay split 29 (entriesOf lz lv) (entriesOf rz rv))
+
+-- What has been kept is the first part of all that is.
+kept-part : {A C : Type 0} (split : Split A) (rule : Rule A) (asEntry : C → Entry A) (blank : C) (zuniqIn : C → ℕ) (lz : List ℕ) (lv : List A) (rz : List ℕ) (rv : List A) (done : List (Entry (Seen A))) (l r : At C) (lp rp : List C)
+    → State split asEntry blank zuniqIn 29 (from lz lv) (from rz rv) done l r lp rp → (o : List (Entry A)) × (kept rule done ++ o ≡ keptCells split rule lz lv rz rv)
+kept-part split rule asEntry blank zuniqIn lz lv rz rv done l r lp rp s =
+    let o = overlay split 29 (toCome asEntry blank (from lz lv) l lp) (toCome asEntry blank (from rz rv) r rp) in
+    (kept rule o, sym (kept-append rule done o) ∙ ap (kept rule) (s .whole))
 
 -- Wrote: what is known of the cells that have been kept
 pub record Walking {A C : Type 0} (split : Split A) (rule : Rule A) (asEntry : C → Entry A) (blank : C) (zuniqIn : C → ℕ) (lz : List ℕ) (lv : List A) (rz : List ℕ) (rv : List A) (Wrote : List (Entry A) → Type 0) (l r : At C) (lp rp : List C) : Type 0 where
@@ -70,6 +77,9 @@ module _ {A C : Type 0} {split : Split A} {rule : Rule A} {asEntry : C → Entry
     };
     wrote = w;
   })
+
+  pub walking-part : (w : Walking split rule asEntry blank zuniqIn lz lv rz rv Wrote l r lp rp) → (o : List (Entry A)) × (kept rule (w .done) ++ o ≡ keptCells split rule lz lv rz rv)
+  walking-part w = kept-part split rule asEntry blank zuniqIn lz lv rz rv (w .done) l r lp rp (w .state)
 
   -- Both heads are fetched.
   pub walking-ready : {u : A} {l′ r′ : At C} {i j : ℕ} → Holds lz lv → Holds rz rv → Walking split rule asEntry blank zuniqIn lz lv rz rv Wrote l r lp rp
@@ -128,8 +138,8 @@ module _ {A C : Type 0} {split : Split A} {rule : Rule A} {asEntry : C → Entry
       -- What has been kept, with the cell, is the first part of all that is.
       pub shown-part : (o : List (Entry A)) × ((kept rule done ++ keptOf rule (shownAs asEntry e)) ++ o ≡ keptCells split rule lz lv rz rv)
       shown-part =
-          let o = overlay split 29 (toCome asEntry blank (from lz lv) (used (takesLeft e) l) lp) (toCome asEntry blank (from rz rv) (used (takesRight e) r) rp) in
-          (kept rule o, ap (λ (c : List (Entry A)). c ++ kept rule o) (sym (kept-next rule done (shownAs asEntry e))) ∙ sym (kept-append rule (done ++ (shownAs asEntry e ∷ [])) o) ∙ ap (kept rule) (shown .whole))
+          let p = kept-part split rule asEntry blank zuniqIn lz lv rz rv _ _ _ lp rp shown in
+          (p .0, ap (λ (c : List (Entry A)). c ++ p .0) (sym (kept-next rule done (shownAs asEntry e))) ∙ p .1)
 
       -- The heads that it takes are used up.
       pub ready-shown : {tl tr : Bool} (Wrote′ : List (Entry A) → Type 0) → tl ≡ takesLeft e → tr ≡ takesRight e → ((o : List (Entry A)) → Wrote o → Wrote′ (o ++ keptOf rule (shownAs asEntry e)))

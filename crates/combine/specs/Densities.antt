@@ -9,8 +9,8 @@ use Rattle.merger.specs.Floats.{isInfinite}
 use Rattle.merger.specs.Merge.{acceptDensities}
 use Rattle.build.specs.Map.{Entry, entry}
 use Rattle.combine.specs.Overlay.{someEntry, overlay}
-use Rattle.combine.specs.Rules.{kept, copyDensity, productRule}
-use Rattle.combine.specs.Heads.{Saw, sawLeft, sawRight, sawBoth, Act, shows, opensLeft, opensRight, ends, At, zuniqShown}
+use Rattle.combine.specs.Rules.{keptOf, kept, copyDensity, productRule}
+use Rattle.combine.specs.Heads.{Saw, sawLeft, sawRight, sawBoth, Act, shows, opensLeft, opensRight, ends, At, shownAs, zuniqShown}
 use Rattle.combine.specs.Slices.{entriesOf, Outcome, Standing, CanKeep, Untouched}
 use Rattle.combine.specs.declared.Pass.{Pass}
 use Rattle.combine.specs.declared.densities.Dhzv.{Dhzv}
@@ -41,7 +41,9 @@ sawOf (LhsRhsBoth.Right b) = sawRight b
 sawOf (LhsRhsBoth.Both a b) = sawBoth a b
 
 abbrev pub actOf : Turn → Act Dhzv
-actOf (Turn.Show s) = shows (sawOf s)
+actOf (Turn.Left a) = shows (sawLeft a)
+actOf (Turn.Right b) = shows (sawRight b)
+actOf (Turn.Both a b) = shows (sawBoth a b)
 actOf (Turn.OpenLeft a) = opensLeft a
 actOf (Turn.OpenRight b) = opensRight b
 actOf Turn.Stop = ends
@@ -72,6 +74,10 @@ someNotFinite l = someEntry (λ e. notFinite (e .value)) l
 abbrev pub CanKeepCells : Pass → ℕ → Answer → List ℕ → List Float → Type 0
 CanKeepCells pass n (Answer.Kept c) zs vs = CanKeep pass n (zuniqIn c) (asEntry c) zs vs
 CanKeepCells pass n Answer.Dropped zs vs = Standing pass n zs vs
+
+-- what the rule answers of an overlay cell can be kept
+abbrev pub CanShow : Pass → Float → ℕ → Saw Dhzv → List ℕ → List Float → Type 0
+CanShow pass k n s zs vs = (a : Answer) → cellsOf a ≡ keptOf (productRule k) (shownAs asEntry s) → Carries s a → CanKeepCells pass n a zs vs
 
 -- What is answered of the cells l behind n others: their number, or that one of them is not finite.
 abbrev pub CellsOutcome : Pass → ℕ → List (Entry Float) → List ℕ → List Float → Cells → List ℕ → List Float → Type 0

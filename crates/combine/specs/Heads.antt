@@ -25,17 +25,6 @@ pub data Act (C : Type 0) : Type 0 where
   opensRight : C → Act C
   ends : Act C
 
--- whose head a turn uses up
-abbrev pub takesLeft : {C : Type 0} → Saw C → Bool
-takesLeft (sawLeft a) = true
-takesLeft (sawRight b) = false
-takesLeft (sawBoth a b) = true
-
-abbrev pub takesRight : {C : Type 0} → Saw C → Bool
-takesRight (sawLeft a) = false
-takesRight (sawRight b) = true
-takesRight (sawBoth a b) = true
-
 -- a side of the walk, apart from its array of pending cells: the next cell, how many are pending, the place of the map's next
 -- entry, and whether the next cell has been used up
 pub record At (C : Type 0) : Type 0 where

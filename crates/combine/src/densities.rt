@@ -9,9 +9,9 @@ ghost use mathlib.Core.Option.{some};
 ghost use Prim.Native.Nat.{_-_, _≤_, _<_};
 ghost use lib.Ieee.{nan};
 ghost use Rattle.combine.specs.Rules.{keptOf, copyDensity, productRule};
-ghost use Rattle.combine.specs.Heads.{sideStart, opened, takesLeft, takesRight, Shallow, shownAs, Turned, Good, ChildOf, EntryAt, Advanced};
+ghost use Rattle.combine.specs.Heads.{sideStart, opened, Shallow, shownAs, Turned, Good, ChildOf, EntryAt, Advanced};
 ghost use Rattle.combine.specs.Slices.{Holds, Room};
-ghost use Rattle.combine.specs.Densities.{asEntry, zuniqIn, headOf, sideOf, sawOf, actOf, cellsOf, Carries, productCells, notFinite, CanKeepCells, CellsOutcome};
+ghost use Rattle.combine.specs.Densities.{asEntry, zuniqIn, headOf, sideOf, sawOf, actOf, cellsOf, Carries, productCells, notFinite, CanKeepCells, CanShow, CellsOutcome};
 use crate::Pass;
 use build::densities::push;
 use merger::is_nan;
@@ -60,7 +60,9 @@ pub struct Side {
 
 // What a turn of the walk does.
 pub enum Turn {
-    Show(LhsRhsBoth),
+    Left(Dhzv),
+    Right(Dhzv),
+    Both(Dhzv, Dhzv),
     OpenLeft(Dhzv),
     OpenRight(Dhzv),
     Stop,
@@ -99,22 +101,24 @@ pub(crate) fn product_cells(
     let mut rights = [BLANK; 87];
     let mut left = start();
     let mut right = start();
-    let mut n: usize = 0;
-    loop {
-        let top = last_pending(left);
-        left = next(left, lefts[top], left_zuniqs, left_densities);
-        let top = last_pending(right);
-        right = next(right, rights[top], right_zuniqs, right_densities);
+    let mut cells = Cells::Number(0);
+    while let Cells::Number(n) = cells {
+        left = next(left, lefts[top(left)], left_zuniqs, left_densities);
+        right = next(right, rights[top(right)], right_zuniqs, right_densities);
         match turn_of(left, right) {
-            Turn::Stop => return Cells::Number(n),
-            Turn::Show(seen) => {
-                let cells = keep(pass, product(seen, k), zuniqs, densities, n);
-                let Cells::Number(number) = cells else {
-                    return Cells::NotFinite;
-                };
-                n = number;
-                left.taken = takes_left(seen);
-                right.taken = takes_right(seen);
+            Turn::Stop => return cells,
+            Turn::Left(a) => {
+                cells = show(pass, LhsRhsBoth::Left(a), k, zuniqs, densities, n);
+                left.taken = true;
+            }
+            Turn::Right(b) => {
+                cells = show(pass, LhsRhsBoth::Right(b), k, zuniqs, densities, n);
+                right.taken = true;
+            }
+            Turn::Both(a, b) => {
+                cells = show(pass, LhsRhsBoth::Both(a, b), k, zuniqs, densities, n);
+                left.taken = true;
+                right.taken = true;
             }
             Turn::OpenLeft(outer) => {
                 let free = left.pending;
@@ -132,6 +136,22 @@ pub(crate) fn product_cells(
             }
         }
     }
+    cells
+}
+
+// Shows a cell to the rule, and keeps what that answers.
+fn show(
+    pass: Pass,
+    seen: LhsRhsBoth,
+    k: f64,
+    zuniqs: &mut [u64],
+    densities: &mut [f64],
+    n: usize,
+) -> Cells
+    requires { ⌜ CanShow pass k n (sawOf seen) (now zuniqs) (now densities) ⌝ }
+    ensures { λ r. ⌜ CellsOutcome pass n (keptOf (productRule k) (shownAs asEntry (sawOf seen))) (now (zuniqs .entry)) (now (densities .entry)) r (now (zuniqs .exit)) (now (densities .exit)) ⌝ }
+{
+    keep(pass, product(seen, k), zuniqs, densities, n)
 }
 
 // Counts a cell behind n others, or merges it into n entries, if the rule keeps it and it is finite.
@@ -206,7 +226,7 @@ fn start() -> Side
 }
 
 // The place of the pending cell that comes first, if there is one.
-fn last_pending(side: Side) -> usize
+fn top(side: Side) -> usize
     ensures { λ r. ⌜ r ≡ side .pending - 1 ⌝ }
 {
     if side.pending > 0 {
@@ -279,10 +299,10 @@ fn turn_of(left: Side, right: Side) -> Turn
     match l {
         Head::End => match r {
             Head::End => Turn::Stop,
-            Head::Cell(b) => Turn::Show(LhsRhsBoth::Right(b)),
+            Head::Cell(b) => Turn::Right(b),
         },
         Head::Cell(a) => match r {
-            Head::End => Turn::Show(LhsRhsBoth::Left(a)),
+            Head::End => Turn::Left(a),
             Head::Cell(b) => meet(a, b),
         },
     }
@@ -296,44 +316,24 @@ fn meet(a: Dhzv, b: Dhzv) -> Turn
     if a.depth <= b.depth {
         let ancestor = b.hash >> (Zuniq64::DIM * (b.depth - a.depth));
         if a.hash < ancestor {
-            return Turn::Show(LhsRhsBoth::Left(a));
+            return Turn::Left(a);
         }
         if ancestor < a.hash {
-            return Turn::Show(LhsRhsBoth::Right(b));
+            return Turn::Right(b);
         }
         if a.depth < b.depth {
             return Turn::OpenLeft(a);
         }
-        return Turn::Show(LhsRhsBoth::Both(a, b));
+        return Turn::Both(a, b);
     }
     let ancestor = a.hash >> (Zuniq64::DIM * (a.depth - b.depth));
     if ancestor < b.hash {
-        return Turn::Show(LhsRhsBoth::Left(a));
+        return Turn::Left(a);
     }
     if b.hash < ancestor {
-        return Turn::Show(LhsRhsBoth::Right(b));
+        return Turn::Right(b);
     }
     Turn::OpenRight(b)
-}
-
-fn takes_left(seen: LhsRhsBoth) -> bool
-    ensures { λ r. ⌜ r ≡ takesLeft (sawOf seen) ⌝ }
-{
-    match seen {
-        LhsRhsBoth::Left(_) => true,
-        LhsRhsBoth::Right(_) => false,
-        LhsRhsBoth::Both(_, _) => true,
-    }
-}
-
-fn takes_right(seen: LhsRhsBoth) -> bool
-    ensures { λ r. ⌜ r ≡ takesRight (sawOf seen) ⌝ }
-{
-    match seen {
-        LhsRhsBoth::Left(_) => false,
-        LhsRhsBoth::Right(_) => true,
-        LhsRhsBoth::Both(_, _) => true,
-    }
 }
 
 // The side whose head has been split: its first child is the head, and the other three are pending.
