@@ -59,7 +59,8 @@ pub struct Side {
     pub taken: bool,
 }
 
-// What a turn of the walk does.
+// What a turn of the walk does. Each way of showing a cell has a case and an arm of its own: one case
+// that held an LhsRhsBoth would send every cell through memory.
 pub enum Turn {
     Left(Dhzv),
     Right(Dhzv),
