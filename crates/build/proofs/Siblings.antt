@@ -37,22 +37,15 @@ pub siblings-from : (D : ℕ) (hs : List ℕ) (i : ℕ) → Rising D hs → i < 
 unfolding siblingsFrom
 siblings-from D hs i r p e =
     let e0 = and-is-true (leb 4 (length hs - i)) _ e in
-    let e1 = and-is-true (eqb (getD hs (i + 3) 0) (getD hs i 0 + 3)) (eqb (getD hs i 0 % 4) 0) (e0 .1) in
     let w = leb-true 4 (length hs - i) (e0 .0) in
-    let h3 = eqb-true (getD hs (i + 3) 0) (getD hs i 0 + 3) (e1 .0) in
+    let h3 = eqb-true (getD hs (i + 3) 0) (4 * (getD hs i 0 / 4) + 3) (e0 .1) in
     let i2 : i + 1 + 1 ≡ i + 2 = omega arith in
     let i3 : i + 2 + 1 ≡ i + 3 = omega arith in
     let a0 = r .above i (omega arith) in
     let a1 = rw i2 at (r .above (i + 1) (omega arith)) in
     let a2 = rw i3 at (r .above (i + 2) (omega arith)) in
-    record {
-      within = omega arith;
-      first = eqb-true (getD hs i 0 % 4) 0 (e1 .1);
-      second = omega arith;
-      third = omega arith;
-      fourth = h3;
-      below = rw h3 at (r .below (i + 3) (omega arith));
-    }
+    let b = r .below (i + 3) (omega arith) in
+    record { within = omega arith; first = omega arith; second = omega arith; third = omega arith; fourth = omega arith; below = omega arith }
 
 -- Four siblings put behind n entries, one after the other.
 module _ {A : Type 0} (K n d h : ℕ) (a b c e : A) (z0 z1 z2 z3 : ℕ) (zs zs1 zs2 zs3 zs4 : List ℕ) (vs vs1 vs2 vs3 vs4 : List A) where

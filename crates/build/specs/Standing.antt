@@ -33,7 +33,7 @@ pub record Rising (D : ℕ) (hs : List ℕ) : Type 0 where
 
 -- The hashes from place i on are those of children 0 to 3 of one parent: where they rise, the first and the fourth tell.
 unfoldable pub siblingsFrom : List ℕ → ℕ → Bool
-siblingsFrom hs i = leb 4 (length hs - i) && (eqb (getD hs (i + 3) 0) (getD hs i 0 + 3) && eqb (getD hs i 0 % 4) 0)
+siblingsFrom hs i = leb 4 (length hs - i) && eqb (getD hs (i + 3) 0) (4 * (getD hs i 0 / 4) + 3)
 
 -- Four siblings with their values, (d, h) being the first: as cells to be added.
 abbrev pub siblings : {A : Type 0} → ℕ → ℕ → A → A → A → A → List (Entry A)

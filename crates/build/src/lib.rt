@@ -144,8 +144,8 @@ pub(crate) fn are_siblings(zuniqs: &[u64], n: usize, depth: u8, hash: u64) -> bo
     zuniqs[n - 4] == last - 3 * gap
 }
 
-// Whether the hashes from a place on are those of children 0 to 3 of one parent: of hashes that rise
-// the first and the fourth tell.
+// Whether the hashes from a place on are those of children 0 to 3 of one parent. Hashes that rise have
+// the fourth of them three places further on only if all four stand there: one comparison tells.
 pub(crate) fn are_next_siblings(hashes: &[u64], i: usize) -> bool
     requires { ⌜ (i < length (now hashes)) × (getD (now hashes) i 0 + 3 < 2 ^ 64) ⌝ }
     ensures { λ r. ⌜ r ≡ siblingsFrom (now (hashes .entry)) i ⌝ }
@@ -153,11 +153,8 @@ pub(crate) fn are_next_siblings(hashes: &[u64], i: usize) -> bool
     if hashes.len() - i < 4 {
         return false;
     }
-    let hash = hashes[i];
-    if hashes[i + 3] != hash + 3 {
-        return false;
-    }
-    hash % 4 == 0
+    let parent = hashes[i] / 4;
+    hashes[i + 3] == 4 * parent + 3
 }
 
 // How far apart the zuniqs of a cell and of the next of its depth are.
