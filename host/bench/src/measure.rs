@@ -39,8 +39,8 @@ fn each(time: Duration, number: usize) -> f64 {
     time.as_nanos() as f64 / number as f64
 }
 
-pub fn heading(group: &str, unit: &str) {
-    println!("\n## {group}\n\n| work | {unit}s | ours, ns a {unit} | Rust, ns a {unit} | ratio |");
+pub fn heading(group: &str, one: &str, many: &str) {
+    println!("\n## {group}\n\n| work | {many} | ours, ns a {one} | Rust, ns a {one} | ratio |");
     println!("|---|---:|---:|---:|---:|");
 }
 
@@ -52,4 +52,37 @@ pub fn row(work: &str, number: usize, (ours, original): (Duration, Duration)) {
 /// A row in which the original has no part.
 pub fn row_alone(work: &str, number: usize, ours: Duration) {
     println!("| {work} | {number} | {:.2} | | |", each(ours, number));
+}
+
+/// What of our time goes to work that the original doesn't do.
+#[derive(Clone, Copy)]
+pub struct Extra {
+    /// All that is looked at before anything is written: the time of the same call with one place
+    /// too few, which is refused by 11 and writes nothing.
+    pub checks: Duration,
+    /// Clearing the places after the entries: the time of a call that has nothing else to do.
+    pub clearing: Duration,
+}
+
+pub fn heading_with_extra(group: &str, one: &str, many: &str) {
+    println!(
+        "\n## {group}\n\n| work | {many} | ours, ns a {one} | Rust, ns a {one} | ratio | checks, ns | \
+         clearing, ns | ratio without both |"
+    );
+    println!("|---|---:|---:|---:|---:|---:|---:|---:|");
+}
+
+pub fn row_with_extra(
+    work: &str,
+    number: usize,
+    (ours, original): (Duration, Duration),
+    extra: Extra,
+) {
+    let (a, b) = (each(ours, number), each(original, number));
+    let (checks, clearing) = (each(extra.checks, number), each(extra.clearing, number));
+    println!(
+        "| {work} | {number} | {a:.2} | {b:.2} | {:.2} | {checks:.2} | {clearing:.2} | {:.2} |",
+        a / b,
+        (a - checks - clearing) / b
+    );
 }

@@ -12,7 +12,10 @@ use oracle::run;
 use super::Plan;
 use crate::{
     inputs::{densities, first_cells, random_quarter, Cells},
-    measure::{alone, contest, heading, row, row_alone, timed},
+    measure::{
+        alone, contest, heading, heading_with_extra, row, row_alone, row_with_extra, timed, Extra,
+        Rounds,
+    },
 };
 
 const CHI2: f64 = 7.815;
@@ -21,12 +24,11 @@ pub fn run(plan: Plan) {
     let depth = 9 - plan.shallower;
     let number = run::n_hash(depth) as usize;
     let all = first_cells(depth, number);
-    heading("Adding", "cell");
+    heading_with_extra("Adding", "cell", "cells");
     for (name, chi2_threshold) in [("7.815", CHI2), ("-1", -1.0), ("infinite", f64::INFINITY)] {
         let work = format!("add counts, all of depth {depth}, T {name}");
         counts(plan, &work, &all, chi2_threshold);
     }
-    fresh_counts(plan, "add counts, T 7.815, fresh", &all);
     let quarter = random_quarter(depth + 1);
     let work = format!(
         "add counts, a random quarter of depth {}, T 7.815",
@@ -37,6 +39,8 @@ pub fn run(plan: Plan) {
         let work = format!("add densities, all of depth {depth}, T {name}");
         add_densities(plan, &work, &densities(&all), chi2_threshold);
     }
+    heading("Adding in batches, and into fresh buffers", "cell", "cells");
+    fresh_counts(plan, "add counts, T 7.815, fresh", &all);
     for batches in [1, 10, 1000] {
         for lent in [Lent::AsNeeded, Lent::Whole] {
             in_batches(plan, &all, batches, lent);
@@ -52,7 +56,19 @@ fn counts(plan: Plan, work: &str, cells: &Cells<u32>, chi2_threshold: f64) {
     let times = contest(plan.rounds, || timed(&mut ours), || timed(original));
     let held = zuniqs.iter().copied().zip(counts.iter().copied());
     assert!(held.take(entries).eq(original()), "{work}: answers differ");
-    row(work, cells.len(), times);
+    let (hashes, batch) = (&cells.hashes, &cells.values);
+    let short = cells.len() - 1;
+    let checks = alone(plan.rounds, || {
+        let (z, c) = (&mut zuniqs[..short], &mut counts[..short]);
+        timed(|| {
+            mom::add_counts(cells.depth, 0, chi2_threshold, 0, z, c, hashes, batch).unwrap_err()
+        })
+    });
+    let clearing = alone(plan.rounds, || {
+        let (z, c) = (&mut zuniqs[entries..], &mut counts[entries..]);
+        timed(|| mom::add_counts(cells.depth, 0, chi2_threshold, 0, z, c, &[], &[]).unwrap())
+    });
+    row_with_extra(work, cells.len(), times, Extra { checks, clearing });
 }
 
 fn add(cells: &Cells<u32>, chi2_threshold: f64, zuniqs: &mut [u64], counts: &mut [u32]) -> usize {
@@ -84,9 +100,9 @@ fn fresh_counts(plan: Plan, work: &str, cells: &Cells<u32>) {
 
 fn add_densities(plan: Plan, work: &str, cells: &Cells<f64>, chi2_threshold: f64) {
     let (mut zuniqs, mut values) = (vec![0; cells.len()], vec![0.0; cells.len()]);
+    let (hashes, batch) = (&cells.hashes, &cells.values);
     let original = || run::build_densities(cells.depth, 0, chi2_threshold, cells.pairs());
     let mut ours = || {
-        let (hashes, batch) = (&cells.hashes, &cells.values);
         let (z, v) = (&mut zuniqs, &mut values);
         mom::add_densities(cells.depth, 0, chi2_threshold, 0, z, v, hashes, batch).unwrap()
     };
@@ -94,7 +110,18 @@ fn add_densities(plan: Plan, work: &str, cells: &Cells<f64>, chi2_threshold: f64
     let times = contest(plan.rounds, || timed(&mut ours), || timed(original));
     let held = zuniqs.iter().copied().zip(values.iter().copied());
     assert!(held.take(entries).eq(original()), "{work}: answers differ");
-    row(work, cells.len(), times);
+    let short = cells.len() - 1;
+    let checks = alone(plan.rounds, || {
+        let (z, v) = (&mut zuniqs[..short], &mut values[..short]);
+        timed(|| {
+            mom::add_densities(cells.depth, 0, chi2_threshold, 0, z, v, hashes, batch).unwrap_err()
+        })
+    });
+    let clearing = alone(plan.rounds, || {
+        let (z, v) = (&mut zuniqs[entries..], &mut values[entries..]);
+        timed(|| mom::add_densities(cells.depth, 0, chi2_threshold, 0, z, v, &[], &[]).unwrap())
+    });
+    row_with_extra(work, cells.len(), times, Extra { checks, clearing });
 }
 
 /// How much of the buffers each call is lent.
@@ -138,7 +165,7 @@ fn in_batches(plan: Plan, cells: &Cells<u32>, batches: usize, lent: Lent) {
             contest(plan.rounds, ours, || timed(original)),
         );
     } else {
-        let rounds = crate::measure::Rounds(plan.rounds.0.min(2));
+        let rounds = Rounds(plan.rounds.0.min(2));
         row_alone(&work, cells.len(), alone(rounds, &mut ours));
     }
     let map = zuniqs.iter().copied().zip(counts.iter().copied());

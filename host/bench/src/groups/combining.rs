@@ -7,7 +7,7 @@ use oracle::run;
 use super::Plan;
 use crate::{
     inputs::{count_map, density_map, Map},
-    measure::{contest, heading, row, timed},
+    measure::{alone, contest, heading_with_extra, row_with_extra, timed, Extra},
 };
 
 const CHI2: f64 = 7.815;
@@ -17,7 +17,7 @@ pub fn run(plan: Plan) {
     let number = 1_000_000 >> (2 * plan.shallower);
     let (left, right) = (count_map(depth, number, 1), count_map(depth, number, 2));
     let shallow = count_map(depth - 5, number, 3);
-    heading("Combining", "entry");
+    heading_with_extra("Combining", "entry", "entries");
     for (name, chi2_threshold) in [("7.815", CHI2), ("-1", -1.0)] {
         pool(
             plan,
@@ -97,10 +97,21 @@ fn pool(plan: Plan, work: &str, left: &Map<u32>, right: &Map<u32>, chi2_threshol
         held.take(entries).eq(run::pool(l, r, 0, chi2_threshold).1),
         "{work}: answers differ"
     );
-    row(
-        &format!("{work}: {needed} cells"),
+    let checks = alone(plan.rounds, || {
+        let (z, c) = (&mut zuniqs[..needed - 1], &mut counts[..needed - 1]);
+        timed(|| mom::pool(left.lent(), right.lent(), 0, chi2_threshold, z, c).unwrap_err())
+    });
+    let empty = Map::of(0, &[]);
+    let clearing = alone(plan.rounds, || {
+        let (z, c) = (&mut zuniqs[entries..needed], &mut counts[entries..needed]);
+        timed(|| mom::pool(empty.lent(), empty.lent(), 0, chi2_threshold, z, c).unwrap())
+    });
+    let work = format!("{work}: {needed} cells");
+    row_with_extra(
+        &work,
         left.len() + right.len(),
         times,
+        Extra { checks, clearing },
     );
 }
 
@@ -131,10 +142,23 @@ fn product(plan: Plan, work: &str, left: &Map<f64>, right: &Map<f64>, chi2_thres
     let held = zuniqs.iter().copied().zip(values.iter().copied());
     let expected = run::product(l, r, 1e-6, 0, chi2_threshold).1;
     assert!(held.take(entries).eq(expected), "{work}: answers differ");
-    row(
-        &format!("{work}: {needed} cells"),
+    let checks = alone(plan.rounds, || {
+        let (z, v) = (&mut zuniqs[..needed - 1], &mut values[..needed - 1]);
+        timed(|| {
+            mom::product(left.lent(), right.lent(), 0, chi2_threshold, 1e-6, z, v).unwrap_err()
+        })
+    });
+    let empty = Map::of(0, &[]);
+    let clearing = alone(plan.rounds, || {
+        let (z, v) = (&mut zuniqs[entries..needed], &mut values[entries..needed]);
+        timed(|| mom::product(empty.lent(), empty.lent(), 0, chi2_threshold, 1e-6, z, v).unwrap())
+    });
+    let work = format!("{work}: {needed} cells");
+    row_with_extra(
+        &work,
         left.len() + right.len(),
         times,
+        Extra { checks, clearing },
     );
 }
 

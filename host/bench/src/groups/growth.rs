@@ -9,7 +9,7 @@ use crate::{
 };
 
 pub fn run(plan: Plan) {
-    heading("Growth", "cell");
+    heading("Growth", "cell", "cells");
     for number in [10_000, 100_000, 1_000_000, 10_000_000] {
         let number = number >> (2 * plan.shallower);
         let cells = first_cells(10 - plan.shallower, number);

@@ -12,9 +12,9 @@ pub fn run(plan: Plan) {
     let depth = 10 - plan.shallower;
     let number = 1_000_000 >> (2 * plan.shallower);
     let map = count_map(depth, number, 1);
-    heading("Map check", "entry");
+    heading("Map check", "entry", "entries");
     check(plan, depth, number, &map);
-    heading("Lookup", "query");
+    heading("Lookup", "query", "queries");
     let mut random = Random(4);
     let mut cells: Vec<u64> = (0..number)
         .map(|_| random.below(run::n_hash(depth)))

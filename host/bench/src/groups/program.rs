@@ -23,7 +23,7 @@ pub fn run(plan: Plan) {
     let theirs = std::env::current_exe()
         .unwrap()
         .with_file_name("original_mombuild");
-    heading("mombuild", "line");
+    heading("mombuild", "line", "lines");
     if !ours.exists() {
         println!("mombuild is not built: `rt check mombuild` makes it");
         return;

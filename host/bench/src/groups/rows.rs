@@ -11,7 +11,7 @@ use crate::{
 
 pub fn run(plan: Plan) {
     let counts = count_map(10 - plan.shallower, 1_000_000 >> (2 * plan.shallower), 1);
-    heading("Rows", "row");
+    heading("Rows", "row", "rows");
     count_rows(plan, &counts);
     density_rows(plan, &density_map(&counts));
 }
