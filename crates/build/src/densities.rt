@@ -8,7 +8,7 @@ ghost use lib.ListN.{length, getD, set, take};
 ghost use Rattle.zuniq.specs.Cells.{nHash};
 ghost use Rattle.zuniq.specs.Codec.{IsZuniqOf};
 ghost use Rattle.merger.specs.Floats.{invalidDensity};
-ghost use Rattle.merger.specs.Merge.{mergeDensities, acceptDensities};
+ghost use Rattle.merger.specs.Merge.{unitDensity, mergeDensities, acceptDensities};
 ghost use Rattle.build.specs.Map.{entry};
 ghost use Rattle.build.specs.Buffers.{held, batch as batchOf};
 ghost use Rattle.build.specs.Standing.{Stands, Rising, siblings, Collapsed, Pushed, Added};
@@ -30,6 +30,8 @@ use crate::free::put_zuniq;
 use merger::DensityMerge;
 use merger::invalid_density;
 use merger::merge_densities;
+use merger::merge_densities_with;
+use merger::unit_density;
 use zuniq::Zuniq64;
 use zuniq::n_hash_unchecked;
 use zuniq::refusal::Refusal;
@@ -133,6 +135,7 @@ fn push_all(
     requires { ⌜ Rising depth (now hashes) ⌝ }
     ensures { λ r. ⌜ Added (acceptDensities «depth_threshold» «chi2_threshold») 29 held (batchOf depth (now (hashes .entry)) (now (batch .entry))) (now (zuniqs .entry)) (now (densities .entry)) r (now (zuniqs .exit)) (now (densities .exit)) ⌝ }
 {
+    let c = unit_density(depth - 1);
     let mut n = held;
     let mut i = 0;
     while i < hashes.len() {
@@ -144,6 +147,7 @@ fn push_all(
                 n,
                 depth,
                 hash,
+                c,
                 batch[i],
                 batch[i + 1],
                 batch[i + 2],
@@ -171,13 +175,15 @@ fn push_all(
 }
 
 // Appends four siblings, of which the first is given, behind n entries. What the merger accepts goes
-// in as the parent at once: the four are not written, to be read again. Answers the number of entries.
+// in as the parent at once: the four are not written, to be read again. c is the density of one source
+// in such a cell. Answers the number of entries.
 fn push_siblings(
     zuniqs: &mut [u64],
     densities: &mut [f64],
     n: usize,
     depth: u8,
     hash: u64,
+    c: f64,
     m0: f64,
     m1: f64,
     m2: f64,
@@ -185,12 +191,13 @@ fn push_siblings(
     depth_threshold: u8,
     chi2_threshold: f64,
 ) -> usize
-    requires { ⌜ Stands 29 n (now zuniqs) (now densities) × (n + 4 ≤ length (now zuniqs)) × (n + 4 ≤ length (now densities)) × (0 < depth) × (depth ≤ 29) × (hash + 3 < nHash depth) × (hash % 4 ≡ 0) ⌝ }
+    requires { ⌜ Stands 29 n (now zuniqs) (now densities) × (n + 4 ≤ length (now zuniqs)) × (n + 4 ≤ length (now densities)) × (0 < depth) × (depth ≤ 29) × (hash + 3 < nHash depth) × (hash % 4 ≡ 0) × (c ≡ unitDensity (depth - 1)) ⌝ }
     ensures { λ r. ⌜ Added (acceptDensities «depth_threshold» «chi2_threshold») 29 n (siblings depth hash m0 m1 m2 m3) (now (zuniqs .entry)) (now (densities .entry)) r (now (zuniqs .exit)) (now (densities .exit)) ⌝ }
 {
     let parent_depth = depth - 1;
     let parent_hash = hash / 4;
-    let DensityMerge::Merged(density) = merge_densities(
+    let DensityMerge::Merged(density) = merge_densities_with(
+        c,
         parent_depth,
         parent_hash,
         depth_threshold,

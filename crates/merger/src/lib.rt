@@ -9,7 +9,7 @@
 // that is NaN, infinite or below 0 (9, place: the child; -0 is accepted), counts whose sum exceeds a
 // u32 (10).
 //
-// `merge_counts` and `merge_densities` refuse nothing: they are for callers that have checked their
+// `merge_counts`, `merge_densities` and `merge_densities_with` refuse nothing: they are for callers that have checked their
 // input. Like the source's mergers they are handed the parent's hash too, at which no rule looks.
 ghost use mathlib.Core.Path.{_≡_};
 ghost use Prim.Native.Nat.{_+_, _≤_};
@@ -161,7 +161,35 @@ pub fn merge_densities(
     requires { ⌜ «parent_depth» ≤ 29 ⌝ }
     ensures { λ r. ⌜ r ≡ mergeDensities «depth_threshold» «chi2_threshold» «parent_depth» «parent_hash» m0 m1 m2 m3 ⌝ }
 {
-    let chi2 = chi2_of_densities(parent_depth, m0, m1, m2, m3);
+    merge_densities_with(
+        unit_density(parent_depth),
+        parent_depth,
+        parent_hash,
+        depth_threshold,
+        chi2_threshold,
+        m0,
+        m1,
+        m2,
+        m3,
+    )
+}
+
+// The same with c, for callers that merge many quads of one depth: it takes a division.
+pub fn merge_densities_with(
+    c: f64,
+    parent_depth: u8,
+    parent_hash: u64,
+    depth_threshold: u8,
+    chi2_threshold: f64,
+    m0: f64,
+    m1: f64,
+    m2: f64,
+    m3: f64,
+) -> DensityMerge
+    requires { ⌜ c ≡ unitDensity «parent_depth» ⌝ }
+    ensures { λ r. ⌜ r ≡ mergeDensities «depth_threshold» «chi2_threshold» «parent_depth» «parent_hash» m0 m1 m2 m3 ⌝ }
+{
+    let chi2 = chi2_of_densities(parent_depth, c, m0, m1, m2, m3);
     if merges(parent_depth, depth_threshold, chi2_threshold, chi2) {
         return DensityMerge::Merged(sum_of(m0, m1, m2, m3) / 4.0);
     }
@@ -194,11 +222,10 @@ pub fn chi2_of_counts(n0: u32, n1: u32, n2: u32, n3: u32) -> f64
 // The same of four densities. A child has the surface 1 / c, so a density m_i has the variance
 // m_i * c, here that of one source where m_i is less, and
 //     chi2 = ((sum of m_i) - 4 * (4 / w)) / c, w being the sum of the 1 / max(m_i, c).
-pub fn chi2_of_densities(parent_depth: u8, m0: f64, m1: f64, m2: f64, m3: f64) -> f64
-    requires { ⌜ «parent_depth» ≤ 29 ⌝ }
+fn chi2_of_densities(parent_depth: u8, c: f64, m0: f64, m1: f64, m2: f64, m3: f64) -> f64
+    requires { ⌜ c ≡ unitDensity «parent_depth» ⌝ }
     ensures { λ r. ⌜ r ≡ chiOfDensities «parent_depth» m0 m1 m2 m3 ⌝ }
 {
-    let c = unit_density(parent_depth);
     let w = sum_of(
         1.0 / max(m0, c),
         1.0 / max(m1, c),
@@ -209,7 +236,7 @@ pub fn chi2_of_densities(parent_depth: u8, m0: f64, m1: f64, m2: f64, m3: f64) -
 }
 
 // c, the density of one source in a child: 4 N(p) of these have the sky's surface, 4 pi.
-fn unit_density(parent_depth: u8) -> f64
+pub fn unit_density(parent_depth: u8) -> f64
     requires { ⌜ «parent_depth» ≤ 29 ⌝ }
     ensures { λ r. ⌜ r ≡ unitDensity «parent_depth» ⌝ }
 {

@@ -5,9 +5,6 @@ use Rattle.merger.specs.Merge.{chiOfDensities}
 use Rattle.merger.proofs.chi2_of_densities.Statement.{statement}
 use Rattle.merger.proofs.chi2_of_densities.Tie as tie
 
-unit-density-requires : tie.Need-unit-density-requires
-unit-density-requires c κs = search needs
-
 max-requires : tie.Need-max-requires
 max-requires c κs = search needs
 
@@ -31,13 +28,12 @@ unfolding ofBits chiOfDensities
 returns c =
     let m3 = c .before .before in
     let m0 = m3 .before .before .before in
-    simp (c .sum-of2 .ensures, c .before .sum-of .ensures, m3 .max4 .ensures, m3 .before .max3 .ensures, m3 .before .before .max2 .ensures, m0 .max .ensures, m0 .before .unit-density .ensures)
+    rw (← m0 .before .pre) (simp (c .sum-of2 .ensures, c .before .sum-of .ensures, m3 .max4 .ensures, m3 .before .max3 .ensures, m3 .before .before .max2 .ensures, m0 .max .ensures))
 
 pub chi2-of-densities-spec : {M : Type 1} → statement M
 chi2-of-densities-spec =
     tie.close
     (tie.spec
-    unit-density-requires
     max-requires
     max-requires-2
     max-requires-3

@@ -1,9 +1,9 @@
--- `merge_densities` meets its contract. Assumes nothing.
+-- `merge_densities_with` meets its contract. Assumes nothing.
 use borrow.Author.Needs.{needs}
 use lib.Ieee.{ofBits}
 use Rattle.merger.specs.Merge.{mergeDensities}
-use Rattle.merger.proofs.merge_densities.Statement.{statement}
-use Rattle.merger.proofs.merge_densities.Tie as tie
+use Rattle.merger.proofs.merge_densities_with.Statement.{statement}
+use Rattle.merger.proofs.merge_densities_with.Tie as tie
 
 chi2-of-densities-requires : tie.Need-chi2-of-densities-requires
 chi2-of-densities-requires c κs = search needs
@@ -24,6 +24,6 @@ returns-2 : tie.Need-returns-2
 unfolding mergeDensities
 returns-2 c = rw (← c .before .before .chi2-of-densities .ensures, ← c .before .merges .ensures, c .if1 .left)
 
-pub merge-densities-spec : {M : Type 1} → statement M
-merge-densities-spec =
+pub merge-densities-with-spec : {M : Type 1} → statement M
+merge-densities-with-spec =
     tie.close (tie.spec chi2-of-densities-requires merges-requires sum-of-requires returns returns-2)
