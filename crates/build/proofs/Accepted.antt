@@ -10,7 +10,7 @@ use lib.Ieee.{Float}
 use lib.ListN.{length, getD, take, drop, replicate, length-drop, drop-of-length-le}
 use lib.Seq.{getD-take, length-take-le, take-suc}
 use borrow.Rule.Slice.PartMut.{midOf, putMid, mid-len}
-use Rattle.zuniq.specs.declared.refusal.Refusal.{Refusal}
+use Rattle.refusal.specs.declared.Refusal.{Refusal}
 use Rattle.merger.specs.Merge.{acceptCounts}
 use Rattle.merger.proofs.Accept.{accepted-count-is-sum}
 use Rattle.mom.specs.Map.{firstFault, ValidMap}

@@ -13,7 +13,7 @@ use lib.ListN.{length, getD, drop, drop-of-length-le}
 use lib.Seq.{drop-cons}
 use borrow.Author.Tests.{leb-false, ltb-false, lt-ltb, le-ltb, eqb-true, eqb-false, not-false}
 use Rattle.zuniq.specs.Cells.{nHash}
-use Rattle.zuniq.specs.declared.refusal.Refusal.{Refusal}
+use Rattle.refusal.specs.declared.Refusal.{Refusal}
 use Rattle.zuniq.proofs.Basics.{le-or-lt}
 use Rattle.mom.specs.Map.{firstFault, ValidMap}
 use Rattle.mom.specs.declared.FirstFault.{FirstFault}

@@ -8,7 +8,7 @@ use native.Mathlib.Omega.{arith}
 use lib.ListN.{length, getD, take, drop, set, replicate, length-replicate, drop-of-length-le}
 use lib.Seq.{drop-cons, drop-length, set-at, take-suc, take-all}
 use borrow.Author.Tests.{lt-ltb, le-ltb}
-use Rattle.zuniq.specs.declared.refusal.Refusal.{Refusal}
+use Rattle.refusal.specs.declared.Refusal.{Refusal}
 use Rattle.build.specs.Add.{sumOf, cappedSum, sumRefusal}
 
 replicate-more : {A : Type 0} (n : ℕ) (x : A) (l : List A) → replicate n x ++ (x ∷ l) ≡ replicate (suc n) x ++ l

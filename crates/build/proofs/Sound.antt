@@ -12,7 +12,7 @@ use lib.ListN.{length, length-append}
 use lib.Seq.{getD-append-seam}
 use Rattle.zuniq.specs.Cells.{nHash, start, end}
 use Rattle.zuniq.specs.Codec.{decode}
-use Rattle.zuniq.specs.declared.refusal.Refusal.{Refusal}
+use Rattle.refusal.specs.declared.Refusal.{Refusal}
 use Rattle.zuniq.proofs.Codec.{cell, decodes}
 use Rattle.zuniq.proofs.Ranges.{start-le-iff, start-at-depth, end-is-next-start, valid-iff-end-le}
 use Rattle.mom.specs.Map.{ValidMap}

@@ -11,7 +11,7 @@ use Rattle.zuniq.specs.Cells.{nHash, end}
 use Rattle.zuniq.specs.Codec.{decode}
 use Rattle.zuniq.specs.declared.Decoded.{Decoded}
 use Rattle.mom.specs.declared.FirstFault.{FirstFault}
-use Rattle.zuniq.specs.declared.refusal.Refusal.{Refusal}
+use Rattle.refusal.specs.declared.Refusal.{Refusal}
 use Rattle.build.specs.Map.{orElse}
 use Rattle.build.specs.declared.Check.{Check}
 

@@ -4,7 +4,7 @@ use mathlib.Core.Option.{Option, none}
 use Prim.Native.Nat.{ℕ, _+_}
 use lib.Ieee.{Float}
 use lib.ListN.{length}
-use Rattle.zuniq.specs.declared.refusal.Refusal.{Refusal}
+use Rattle.refusal.specs.declared.Refusal.{Refusal}
 use Rattle.merger.specs.Floats.{0·0, invalidDensity}
 use Rattle.merger.specs.Merge.{acceptDensities}
 use Rattle.mom.specs.Map.{firstFault}

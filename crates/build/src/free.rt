@@ -5,21 +5,21 @@ ghost use Prim.Native.Nat.{_<_};
 ghost use lib.ListN.{length, set, replicate};
 ghost use Rattle.merger.specs.Floats.{0·0};
 
-pub(crate) fn put_zuniq(free: &mut [u64], zuniq: u64)
+pub fn put_zuniq(free: &mut [u64], zuniq: u64)
     requires { ⌜ 0 < length (now free) ⌝ }
     ensures { λ _. ⌜ now (free .exit) ≡ set (now (free .entry)) 0 «zuniq» ⌝ }
 {
     free[0] = zuniq;
 }
 
-pub(crate) fn put_count(free: &mut [u32], count: u32)
+pub fn put_count(free: &mut [u32], count: u32)
     requires { ⌜ 0 < length (now free) ⌝ }
     ensures { λ _. ⌜ now (free .exit) ≡ set (now (free .entry)) 0 count ⌝ }
 {
     free[0] = count;
 }
 
-pub(crate) fn put_density(free: &mut [f64], density: f64)
+pub fn put_density(free: &mut [f64], density: f64)
     requires { ⌜ 0 < length (now free) ⌝ }
     ensures { λ _. ⌜ now (free .exit) ≡ set (now (free .entry)) 0 density ⌝ }
 {

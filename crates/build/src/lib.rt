@@ -7,6 +7,10 @@
 //
 // A call looks at everything before it writes anything, so that a refusal leaves both buffers as
 // they were: one pass over the held map, one over the batch, and one to write.
+//
+// The calls are in `build_counts` and `build_densities`. Here are the definitions and laws of both,
+// their answers, and what they share: checks, siblings and the free part. Those of these functions
+// that require something are for callers that have checked it.
 ghost use mathlib.Core.Path.{_≡_};
 ghost use Prim.Native.Nat.{ℕ, _+_, _-_, _*_, _^_, _≤_, _<_};
 ghost use lib.ListN.{length, getD, take, replicate};
@@ -17,9 +21,9 @@ ghost use Rattle.build.specs.Add.{settingsRefusal, lengthsRefusal, cellR
 use merger::is_nan;
 use mom::FirstFault;
 use mom::first_fault;
+use refusal::Refusal;
 use zuniq::Decoded;
 use zuniq::Zuniq64;
-use zuniq::refusal::Refusal;
 
 pub mod counts;
 pub mod densities;
@@ -32,7 +36,7 @@ pub enum Check {
 }
 
 // Rows 1 to 3 of the table of refusals.
-pub(crate) fn check_settings(depth: u8, depth_threshold: u8, chi2_threshold: f64) -> Check
+pub fn check_settings(depth: u8, depth_threshold: u8, chi2_threshold: f64) -> Check
     ensures { λ r. ⌜ r ≡ checkOf (settingsRefusal depth «depth_threshold» «chi2_threshold») ⌝ }
 {
     if depth == 0 {
@@ -51,7 +55,7 @@ pub(crate) fn check_settings(depth: u8, depth_threshold: u8, chi2_threshold: f64
 }
 
 // Row 4.
-pub(crate) fn check_lengths(
+pub fn check_lengths(
     held: usize,
     zuniqs: usize,
     values: usize,
@@ -83,7 +87,7 @@ pub fn check_map(depth: u8, zuniqs: &[u64]) -> Check
 }
 
 // Row 11.
-pub(crate) fn check_space(places: usize, held: usize, batch: usize) -> Check
+pub fn check_space(places: usize, held: usize, batch: usize) -> Check
     requires { ⌜ held + batch < 2 ^ 64 ⌝ }
     ensures { λ r. ⌜ r ≡ checkOf (spaceRefusal places held batch) ⌝ }
 {
@@ -94,7 +98,7 @@ pub(crate) fn check_space(places: usize, held: usize, batch: usize) -> Check
 }
 
 // Where the last entry of a valid map ends, as a hash of the map's depth.
-pub(crate) fn end_of_map(depth: u8, zuniqs: &[u64]) -> u64
+pub fn end_of_map(depth: u8, zuniqs: &[u64]) -> u64
     requires { ⌜ (depth ≤ 29) × ValidMap 29 depth (now zuniqs) ⌝ }
     ensures { λ r. ⌜ r ≡ mapEnd 29 depth (now (zuniqs .entry)) ⌝ }
 {
@@ -109,7 +113,7 @@ pub(crate) fn end_of_map(depth: u8, zuniqs: &[u64]) -> u64
 }
 
 // Rows 7 and 8 for one cell: `least` is the smallest hash that is above what stands before it.
-pub(crate) fn check_cell(n_hash: u64, least: u64, hash: u64, place: usize) -> Check
+pub fn check_cell(n_hash: u64, least: u64, hash: u64, place: usize) -> Check
     ensures { λ r. ⌜ r ≡ checkOf (cellRefusal «n_hash» least hash place) ⌝ }
 {
     if hash >= n_hash {
@@ -123,7 +127,7 @@ pub(crate) fn check_cell(n_hash: u64, least: u64, hash: u64, place: usize) -> Ch
 
 // Whether the last four of n entries are children 0 to 3 of one parent, the last one being the cell
 // given. Most cells are no fourth child: for them one test is all.
-pub(crate) fn are_siblings(zuniqs: &[u64], n: usize, depth: u8, hash: u64) -> bool
+pub fn are_siblings(zuniqs: &[u64], n: usize, depth: u8, hash: u64) -> bool
     requires { ⌜ (n ≤ length (now zuniqs)) × IsZuniqOf 29 (getD (now zuniqs) (n - 1) 0) depth hash ⌝ }
     ensures { λ r. ⌜ r ≡ quadAt 29 n (now (zuniqs .entry)) depth hash ⌝ }
 {
@@ -146,7 +150,7 @@ pub(crate) fn are_siblings(zuniqs: &[u64], n: usize, depth: u8, hash: u64) -> bo
 
 // Whether the hashes from a place on are those of children 0 to 3 of one parent. Hashes that rise have
 // the fourth of them three places further on only if all four stand there: one comparison tells.
-pub(crate) fn are_next_siblings(hashes: &[u64], i: usize) -> bool
+pub fn are_next_siblings(hashes: &[u64], i: usize) -> bool
     requires { ⌜ (i < length (now hashes)) × (getD (now hashes) i 0 + 3 < 2 ^ 64) ⌝ }
     ensures { λ r. ⌜ r ≡ siblingsFrom (now (hashes .entry)) i ⌝ }
 {

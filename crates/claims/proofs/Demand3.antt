@@ -11,7 +11,7 @@ use lib.ListN.{length, take, length-reverse}
 use Rattle.mom.specs.Map.{firstFault}
 use Rattle.mom.proofs.Faults.{no-fault-iff-valid}
 use Rattle.zuniq.specs.Cells.{nHash, liesIn}
-use Rattle.zuniq.specs.declared.refusal.Refusal.{Refusal}
+use Rattle.refusal.specs.declared.Refusal.{Refusal}
 use Rattle.zuniq.proofs.Ranges.{lies-in-self, lies-in-same-depth}
 use Rattle.merger.specs.Merge.{acceptCounts}
 use Rattle.merger.proofs.Accept.{accepted-count-is-sum}

@@ -7,7 +7,7 @@ use Prim.Native.Nat.{ℕ, _+_, _≤_, _<_, min}
 use native.Mathlib.Omega.{arith}
 use borrow.Author.Tests.{lt-ltb}
 use Rattle.zuniq.proofs.Basics.{le-or-lt}
-use Rattle.zuniq.specs.declared.refusal.Refusal.{Refusal}
+use Rattle.refusal.specs.declared.Refusal.{Refusal}
 use Rattle.build.specs.Map.{orElse}
 use Rattle.build.specs.Add.{checkOf, sumOf, cappedSum}
 use Rattle.build.specs.Counts.{totalOr}

@@ -11,7 +11,7 @@ use lib.Ieee.{Float}
 use lib.ListN.{length, take, replicate}
 use borrow.Author.Tests.{lt-ltb, le-ltb, ltb-false}
 use Rattle.zuniq.specs.Cells.{nHash}
-use Rattle.zuniq.specs.declared.refusal.Refusal.{Refusal}
+use Rattle.refusal.specs.declared.Refusal.{Refusal}
 use Rattle.merger.specs.Merge.{acceptCounts}
 use Rattle.merger.proofs.Accept.{accepted-count-is-sum}
 use Rattle.build.specs.Map.{Entry}

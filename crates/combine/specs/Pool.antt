@@ -7,7 +7,7 @@ use Prim.Native.Nat.{ℕ, _+_, max}
 use lib.Dec.{eqb, ltb}
 use lib.Ieee.{Float, isNan}
 use lib.ListN.{length}
-use Rattle.zuniq.specs.declared.refusal.Refusal.{Refusal}
+use Rattle.refusal.specs.declared.Refusal.{Refusal}
 use Rattle.merger.specs.Floats.{invalidDensity}
 use Rattle.merger.specs.Merge.{acceptCounts, acceptDensities}
 use Rattle.mom.specs.Map.{firstFault}

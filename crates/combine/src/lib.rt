@@ -1,6 +1,9 @@
 // Combining multi-order maps: section 5 of the scope. The overlay of two maps is walked by their
 // heads; what a rule keeps of it is merged as cells are added to a map. The pool of two count maps
 // and the product of two density maps are two such rules.
+//
+// The calls are in `pool` and `product`, and their walks in `walk_counts` and `walk_densities`. Here
+// are the definitions and laws of both, what a walk is made of, and the checks that they share.
 ghost use mathlib.Core.Path.{_≡_};
 ghost use Rattle.mom.specs.Map.{firstFault};
 ghost use Rattle.build.specs.Map.{orElse};
@@ -9,13 +12,11 @@ ghost use Rattle.combine.specs.Pool.{settingsRefusal, pairsRefusal};
 use build::Check;
 use build::check_map;
 use merger::is_nan;
+use refusal::Refusal;
 use zuniq::Zuniq64;
-use zuniq::refusal::Refusal;
 
 pub mod counts;
 pub mod densities;
-pub mod pool;
-pub mod product;
 
 // What a walk of two maps is for: to count the cells that the rule keeps, or to merge them into a
 // map in the output buffers.
@@ -28,7 +29,7 @@ pub enum Pass {
 }
 
 // Rows 1 to 3 of the table of refusals.
-pub(crate) fn check_settings(
+pub fn check_settings(
     left_depth: u8,
     right_depth: u8,
     depth_threshold: u8,
@@ -52,7 +53,7 @@ pub(crate) fn check_settings(
 }
 
 // Row 4: the lengths of both maps' buffers and of the output's.
-pub(crate) fn check_pairs(
+pub fn check_pairs(
     left_zuniqs: usize,
     left_values: usize,
     right_zuniqs: usize,
@@ -75,7 +76,7 @@ pub(crate) fn check_pairs(
 }
 
 // Row 5: the left map before the right one.
-pub(crate) fn check_maps(
+pub fn check_maps(
     left_depth: u8,
     left_zuniqs: &[u64],
     right_depth: u8,

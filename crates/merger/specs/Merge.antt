@@ -6,7 +6,7 @@ use Prim.Native.Nat.{ℕ, _+_}
 use lib.Dec.{leb, ltb}
 use lib.Ieee.{Float, isNan, lt}
 use Rattle.zuniq.specs.Cells.{nHash}
-use Rattle.zuniq.specs.declared.refusal.Refusal.{Refusal}
+use Rattle.refusal.specs.declared.Refusal.{Refusal}
 use Rattle.merger.specs.Floats.{_⊕_, _⊖_, _⊗_, _⊘_, float, 1·0, 4·0, π, max, invalidDensity}
 use Rattle.merger.specs.declared.CountMerge.{CountMerge}
 use Rattle.merger.specs.declared.DensityMerge.{DensityMerge}

@@ -5,9 +5,7 @@
 // count is the sum, the merged density a quarter of the sum. Otherwise the four are kept, and the
 // answer carries the chi-square that was found.
 //
-// Refused, in this order: a parent depth over 28 (number 1), M over 29 (2), T a NaN (3), a density
-// that is NaN, infinite or below 0 (9, place: the child; -0 is accepted), counts whose sum exceeds a
-// u32 (10).
+// The calls that check their input are in `merger_calls`.
 //
 // `merge_counts`, `merge_densities` and `merge_densities_with` refuse nothing: they are for callers that have checked their
 // input. Like the source's mergers they are handed the parent's hash too, at which no rule looks.
@@ -15,10 +13,9 @@ ghost use mathlib.Core.Path.{_≡_};
 ghost use Prim.Native.Nat.{_+_, _≤_};
 ghost use lib.Ieee.{isNan};
 ghost use Rattle.merger.specs.Floats.{max, invalidDensity};
-ghost use Rattle.merger.specs.Merge.{merges, sumOf, chiOfCounts, mergeCounts, countMerger, unitDensity, chiOfDensities, mergeDensities, firstInvalid, densityMerger};
-use zuniq::Zuniq64;
+ghost use Rattle.merger.specs.Merge.{merges, sumOf, chiOfCounts, mergeCounts, unitDensity, chiOfDensities, mergeDensities};
+use refusal::Refusal;
 use zuniq::n_hash_unchecked;
-use zuniq::refusal::Refusal;
 
 // What becomes of four counts: their parent's count, or that they are kept, with their chi-square.
 pub enum CountMerge {
@@ -45,86 +42,8 @@ pub enum DensityMerger {
     Refused(Refusal),
 }
 
-// Cells of the largest depth have no children.
-const MAX_PARENT_DEPTH: u8 = Zuniq64::MAX_DEPTH - 1;
-
-const MAX_COUNT: u64 = 4_294_967_295;
-
 // The f64 with bits 400921FB54442D18.
 const PI: f64 = 3.141592653589793;
-
-// The source's `new_chi2_count_merger_with_depth_threshold`, called on the four counts.
-pub fn chi2_count_merger(
-    parent_depth: u8,
-    depth_threshold: u8,
-    chi2_threshold: f64,
-    n0: u32,
-    n1: u32,
-    n2: u32,
-    n3: u32,
-) -> CountMerger
-    ensures { λ r. ⌜ r ≡ countMerger «depth_threshold» «chi2_threshold» «parent_depth» n0 n1 n2 n3 ⌝ }
-{
-    if parent_depth > MAX_PARENT_DEPTH {
-        return CountMerger::Refused(Refusal::DepthOutOfRange);
-    }
-    if depth_threshold > Zuniq64::MAX_DEPTH {
-        return CountMerger::Refused(Refusal::DepthThresholdOutOfRange);
-    }
-    if is_nan(chi2_threshold) {
-        return CountMerger::Refused(Refusal::Chi2ThresholdIsNan);
-    }
-    if n0 as u64 + n1 as u64 + n2 as u64 + n3 as u64 > MAX_COUNT {
-        return CountMerger::Refused(Refusal::CountOverflow(0));
-    }
-    CountMerger::Answer(merge_counts(
-        parent_depth,
-        0,
-        depth_threshold,
-        chi2_threshold,
-        n0,
-        n1,
-        n2,
-        n3,
-    ))
-}
-
-// The source's `new_chi2_density_merger`, called on the four densities.
-pub fn chi2_density_merger(
-    parent_depth: u8,
-    depth_threshold: u8,
-    chi2_threshold: f64,
-    m0: f64,
-    m1: f64,
-    m2: f64,
-    m3: f64,
-) -> DensityMerger
-    ensures { λ r. ⌜ r ≡ densityMerger «depth_threshold» «chi2_threshold» «parent_depth» m0 m1 m2 m3 ⌝ }
-{
-    if parent_depth > MAX_PARENT_DEPTH {
-        return DensityMerger::Refused(Refusal::DepthOutOfRange);
-    }
-    if depth_threshold > Zuniq64::MAX_DEPTH {
-        return DensityMerger::Refused(Refusal::DepthThresholdOutOfRange);
-    }
-    if is_nan(chi2_threshold) {
-        return DensityMerger::Refused(Refusal::Chi2ThresholdIsNan);
-    }
-    let child = first_invalid(m0, m1, m2, m3);
-    if child < 4 {
-        return DensityMerger::Refused(Refusal::InvalidDensity(child));
-    }
-    DensityMerger::Answer(merge_densities(
-        parent_depth,
-        0,
-        depth_threshold,
-        chi2_threshold,
-        m0,
-        m1,
-        m2,
-        m3,
-    ))
-}
 
 // The count merger for four counts whose sum fits a u32.
 pub fn merge_counts(
@@ -254,25 +173,6 @@ fn max(m: f64, c: f64) -> f64
     ensures { λ r. ⌜ r ≡ max m c ⌝ }
 {
     if m > c { m } else { c }
-}
-
-// The first of four densities that is invalid, 4 if none is.
-fn first_invalid(m0: f64, m1: f64, m2: f64, m3: f64) -> usize
-    ensures { λ r. ⌜ r ≡ firstInvalid m0 m1 m2 m3 ⌝ }
-{
-    if invalid_density(m0) {
-        return 0;
-    }
-    if invalid_density(m1) {
-        return 1;
-    }
-    if invalid_density(m2) {
-        return 2;
-    }
-    if invalid_density(m3) {
-        return 3;
-    }
-    4
 }
 
 // NaN, infinite or below 0. A NaN is not at least 0.

@@ -9,7 +9,7 @@ use lib.ListN.{length, getD}
 use denote.Ref.{RefT, now}
 use borrow.Author.Tests.{lt-ltb, le-ltb, eq-eqb, ne-eqb}
 use Rattle.zuniq.specs.Codec.{IsZuniqOf, decode}
-use Rattle.zuniq.specs.declared.refusal.Refusal.{Refusal}
+use Rattle.refusal.specs.declared.Refusal.{Refusal}
 use Rattle.zuniq.specs.declared.Cell.{Cell}
 use Rattle.zuniq.specs.declared.Decoded.{Decoded}
 use Rattle.zuniq.proofs.Basics.{is-false, le-or-lt}

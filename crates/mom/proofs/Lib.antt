@@ -3,6 +3,6 @@ pub mod Rises
 pub mod Valid
 pub mod Faults
 pub mod Runs
-mod Passed
-mod Around
-mod Answers
+pub mod Passed
+pub mod Around
+pub mod Answers

@@ -10,7 +10,7 @@ use native.Mathlib.Omega.{arith}
 use lib.ListN.{length, getD, take, drop}
 use lib.Seq.{take-nil, drop-nil}
 use Rattle.zuniq.specs.Codec.{decode}
-use Rattle.zuniq.specs.declared.refusal.Refusal.{Refusal}
+use Rattle.refusal.specs.declared.Refusal.{Refusal}
 use Rattle.zuniq.specs.declared.Cell.{Cell}
 use Rattle.zuniq.specs.declared.Decoded.{Decoded}
 use Rattle.zuniq.proofs.Basics.{is-false}

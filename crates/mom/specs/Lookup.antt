@@ -10,7 +10,7 @@ use lib.ListN.{length, getD, take, drop}
 use denote.Ref.{RefT, ptr, now}
 use Rattle.zuniq.specs.Cells.{liesIn}
 use Rattle.zuniq.specs.Codec.{decode}
-use Rattle.zuniq.specs.declared.refusal.Refusal.{Refusal}
+use Rattle.refusal.specs.declared.Refusal.{Refusal}
 use Rattle.zuniq.specs.declared.Cell.{Cell}
 use Rattle.zuniq.specs.declared.Decoded.{Decoded}
 use Rattle.mom.specs.Map.{overlaps, ValidMap}

@@ -1,4 +1,5 @@
-// Multi-order maps: the map check, section 3 of the scope. `lookup` has section 6.
+// Multi-order maps: the map check, section 3 of the scope. Of lookup, section 6, the
+// definitions, laws and answers are here, and the calls in `lookup`.
 //
 // A map of depth D is a list of zuniqs, lent as a slice, with a value for each; the values play no
 // part here. It is valid if each zuniq is valid, none is deeper than D, they rise strictly and no
@@ -9,10 +10,10 @@ ghost use mathlib.Core.Path.{_≡_};
 ghost use Rattle.zuniq.specs.Codec.{IsZuniqOf};
 ghost use Rattle.mom.specs.Map.{firstFault, mapCheck};
 ghost use Rattle.mom.specs.Range.{IsRangeOf};
+use refusal::Refusal;
 use zuniq::Cell;
 use zuniq::Decoded;
 use zuniq::Zuniq64;
-use zuniq::refusal::Refusal;
 
 pub mod lookup;
 
@@ -34,7 +35,7 @@ pub enum FirstFault {
 
 // The range of a cell, in zuniqs: those of the cells that lie in it are between the two, and its own
 // is in the middle. Each is twice the hash, at the largest depth, at which the cell starts or ends.
-pub(crate) struct ZuniqRange {
+pub struct ZuniqRange {
     pub start: u64,
     pub end: u64,
 }
@@ -91,7 +92,7 @@ pub fn first_fault(depth: u8, zuniqs: &[u64]) -> FirstFault
 }
 
 // The range of a cell whose zuniq is at hand.
-pub(crate) fn range_of(zuniq: u64, cell: Cell) -> ZuniqRange
+pub fn range_of(zuniq: u64, cell: Cell) -> ZuniqRange
     requires { ⌜ IsZuniqOf 29 «zuniq» (cell .depth) (cell .hash) ⌝ }
     ensures { λ r. ⌜ IsRangeOf 29 cell r ⌝ }
 {

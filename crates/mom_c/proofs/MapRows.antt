@@ -4,7 +4,7 @@ use mathlib.Core.List.{List}
 use Prim.Native.Nat.{ℕ, _≤_, _<_}
 use lib.ListN.{length, take}
 use borrow.Author.Tests.{le-ltb, lt-ltb}
-use Rattle.zuniq.specs.declared.refusal.Refusal.{Refusal}
+use Rattle.refusal.specs.declared.Refusal.{Refusal}
 use Rattle.mom.specs.Map.{mapCheck}
 use Rattle.mom.specs.declared.MapCheck.{MapCheck}
 use Rattle.mom.specs.declared.lookup.Containing.{Containing}
@@ -12,7 +12,8 @@ use Rattle.mom.specs.declared.lookup.Run.{Run}
 use Rattle.rows.specs.Rows.{readZuniqs}
 use Rattle.rows.specs.declared.Rows.{Rows}
 use Rattle.rows.proofs.Zuniqs.{was-read, was-refused}
-use Rattle.mom_c.specs.Words.{containingWord, runWord, ContainingIs, RunIs}
+use Rattle.words.specs.Words.{containingWord, runWord}
+use Rattle.mom_c.specs.Answers.{ContainingIs, RunIs}
 use Rattle.mom_c.specs.Ingest.{mapRows, mapRowsAt, checkRowsAs, checkRows, ContainingOver, ContainingInRows, RunOver, RunInRows}
 
 -- As many places as rows are read hold zuniqs.

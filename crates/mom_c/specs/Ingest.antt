@@ -1,13 +1,12 @@
--- What the C functions of the ingest process answer: rows, densities, and the check and lookup of a map that comes as count
+-- What the C functions of the ingest process answer: rows, and the check and lookup of a map that comes as count
 -- rows. "Our Rust ingest process calls check, lookup and rows as C functions on numbers and byte slices."
 use mathlib.Core.Path.{_≡_}
 use mathlib.Core.Bool.{cond}
 use mathlib.Core.List.{List, [], _∷_}
 use Prim.Native.Nat.{ℕ}
 use lib.Dec.{ltb}
-use lib.Ieee.{Float}
 use lib.ListN.{length}
-use Rattle.zuniq.specs.declared.refusal.Refusal.{Refusal}
+use Rattle.refusal.specs.declared.Refusal.{Refusal}
 use Rattle.mom.specs.Map.{mapCheck}
 use Rattle.mom.specs.Lookup.{ContainingAnswer, RunAnswer}
 use Rattle.mom.specs.declared.MapCheck.{MapCheck}
@@ -15,33 +14,13 @@ use Rattle.mom.specs.declared.lookup.Containing.{Containing}
 use Rattle.mom.specs.declared.lookup.Run.{Run}
 use Rattle.rows.specs.Rows.{rowsToRead, zuniqsOf}
 use Rattle.rows.specs.declared.Rows.{Rows}
-use Rattle.rows.specs.declared.density.CountDensity.{CountDensity}
-use Rattle.rows.specs.declared.density.PatternDensity.{PatternDensity}
-use Rattle.rows.specs.declared.density.DensityPattern.{DensityPattern}
-use Rattle.mom_c.specs.Words.{wordOf, accepted, nothing, refusalWord, containingWord, runWord}
+use Rattle.words.specs.Words.{rowsWord, containingWord, runWord}
 
--- ---- rows and densities
-
--- "Both row calls answer the number of rows"
-unfoldable pub rowsWord : Rows → ℕ
-rowsWord (Rows.Rows n) = wordOf accepted n
-rowsWord (Rows.Refused r) = refusalWord r
+-- ---- rows
 
 -- the word of a row call, with what it leaves in the lent buffers
 unfoldable pub told : {A : Type 0} → Rows × A → ℕ × A
 told a = (rowsWord (a .0), a .1)
-
-unfoldable pub countDensityWord : CountDensity → Float → ℕ × Float
-countDensityWord (CountDensity.Density x) old = (wordOf accepted 0, x)
-countDensityWord (CountDensity.Refused r) old = (refusalWord r, old)
-
-unfoldable pub patternDensityWord : PatternDensity → Float → ℕ × Float
-patternDensityWord (PatternDensity.Density x) old = (wordOf accepted 0, x)
-patternDensityWord PatternDensity.Nothing old = (wordOf nothing 0, old)
-
-unfoldable pub densityPatternWord : DensityPattern → ℕ → ℕ × ℕ
-densityPatternWord (DensityPattern.Pattern p) old = (wordOf accepted 0, p)
-densityPatternWord DensityPattern.Nothing old = (wordOf nothing 0, old)
 
 -- ---- a map that comes as rows
 

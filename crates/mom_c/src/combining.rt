@@ -1,14 +1,11 @@
 // Combining maps from C: the pool of two count maps and the product of two density maps.
 ghost use mathlib.Core.Path.{_≡_};
 ghost use Rattle.combine.specs.Pool.{Given, poolCounts, productDensities};
-ghost use Rattle.mom_c.specs.Words.{countsAddedWord, densitiesAddedWord};
-use crate::ACCEPTED;
-use crate::refused;
-use crate::word;
-use build::counts::CountsAdded;
-use build::densities::DensitiesAdded;
-use combine::pool::pool;
-use combine::product::product;
+ghost use Rattle.mom_c.specs.Answers.{countsAddedWord, densitiesAddedWord};
+use map_words::counts_word;
+use map_words::densities_word;
+use pool::pool;
+use product::product;
 
 // Pools two count maps into two output buffers: the number of entries, and their total.
 #[no_mangle]
@@ -27,7 +24,7 @@ pub extern "C" fn mom_pool(
 ) -> u64
     ensures { λ r. ⌜ (r, now (total .exit), now (zuniqs .exit), now (counts .exit)) ≡ countsAddedWord (poolCounts (record { depth = «left_depth»; zuniqs = now («left_zuniqs» .entry); values = now («left_counts» .entry) }) (record { depth = «right_depth»; zuniqs = now («right_zuniqs» .entry); values = now («right_counts» .entry) }) «depth_threshold» «chi2_threshold» (now (zuniqs .entry)) (now (counts .entry))) (now (total .entry)) ⌝ }
 {
-    match pool(
+    let pooled = pool(
         left_depth,
         left_zuniqs,
         left_counts,
@@ -38,16 +35,8 @@ pub extern "C" fn mom_pool(
         chi2_threshold,
         zuniqs,
         counts,
-    ) {
-        CountsAdded::Added {
-            entries,
-            total: sum,
-        } => {
-            *total = sum;
-            word(ACCEPTED, entries as u64)
-        }
-        CountsAdded::Refused(refusal) => refused(refusal),
-    }
+    );
+    counts_word(pooled, total)
 }
 
 // Multiplies two density maps into two output buffers: the number of entries.
@@ -67,7 +56,7 @@ pub extern "C" fn mom_product(
 ) -> u64
     ensures { λ r. ⌜ (r, now (zuniqs .exit), now (densities .exit)) ≡ densitiesAddedWord (productDensities (record { depth = «left_depth»; zuniqs = now («left_zuniqs» .entry); values = now («left_densities» .entry) }) (record { depth = «right_depth»; zuniqs = now («right_zuniqs» .entry); values = now («right_densities» .entry) }) «depth_threshold» «chi2_threshold» k (now (zuniqs .entry)) (now (densities .entry))) ⌝ }
 {
-    match product(
+    densities_word(product(
         left_depth,
         left_zuniqs,
         left_densities,
@@ -79,8 +68,5 @@ pub extern "C" fn mom_product(
         k,
         zuniqs,
         densities,
-    ) {
-        DensitiesAdded::Added { entries } => word(ACCEPTED, entries as u64),
-        DensitiesAdded::Refused(refusal) => refused(refusal),
-    }
+    ))
 }

@@ -6,42 +6,31 @@
 // query that is no zuniq, or in `mom_get_cell_containing` not of the map's depth (12).
 ghost use mathlib.Core.Path.{_≡_};
 ghost use Rattle.rows.specs.Rows.{countRows, densityRows, readRows, writeRows};
-ghost use Rattle.rows.specs.Densities.{densityOfCount, densityOfPattern, patternOfDensity};
-ghost use Rattle.mom_c.specs.Words.{mapCheckWord};
-ghost use Rattle.mom_c.specs.Ingest.{rowsWord, told, countDensityWord, patternDensityWord, densityPatternWord, checkRows, ContainingInRows, RunInRows};
-use crate::ACCEPTED;
-use crate::NOTHING;
+ghost use Rattle.density.specs.Densities.{densityOfCount, densityOfPattern, patternOfDensity};
+ghost use Rattle.words.specs.Words.{mapCheckWord, countDensityWord, patternDensityWord, densityPatternWord};
+ghost use Rattle.mom_c.specs.Ingest.{told, checkRows, ContainingInRows, RunInRows};
 use crate::mom_check_is_mom_zuniqs;
 use crate::mom_get_cell_containing_zuniqs;
 use crate::mom_get_overlapped_cells_zuniqs;
-use crate::refused;
-use crate::word;
+use density::density_of_count;
+use density::density_of_pattern;
+use density::pattern_of_density;
+use map_words::count_density_word;
+use map_words::density_pattern_word;
+use map_words::pattern_density_word;
+use map_words::rows_word;
+use refusal::Refusal;
 use rows::Rows;
-use rows::density::CountDensity;
-use rows::density::DensityPattern;
-use rows::density::PatternDensity;
-use rows::density::density_of_count;
-use rows::density::density_of_pattern;
-use rows::density::pattern_of_density;
-use rows::read_count_rows;
-use rows::read_density_rows;
-use rows::read_zuniqs;
-use rows::write_count_rows;
-use rows::write_density_rows;
+use rows_read::read_count_rows;
+use rows_read::read_density_rows;
+use rows_read::read_zuniqs;
+use rows_write::write_count_rows;
+use rows_write::write_density_rows;
+use words::refused;
 use zuniq::Zuniq64;
-use zuniq::refusal::Refusal;
 
 // A map comes as at most so many rows.
 const MAX_ROWS: usize = 4096;
-
-fn rows_word(rows: Rows) -> u64
-    ensures { λ r. ⌜ r ≡ rowsWord «rows» ⌝ }
-{
-    match rows {
-        Rows::Rows(number) => word(ACCEPTED, number as u64),
-        Rows::Refused(refusal) => refused(refusal),
-    }
-}
 
 // Reads count rows into two buffers: the number of rows.
 #[no_mangle]
@@ -84,13 +73,7 @@ pub extern "C" fn mom_write_density_rows(zuniqs: &[u64], patterns: &[u64], bytes
 pub extern "C" fn mom_density_of_count(depth: u8, count: u32, density: &mut f64) -> u64
     ensures { λ r. ⌜ (r, now (density .exit)) ≡ countDensityWord (densityOfCount 29 count depth) (now (density .entry)) ⌝ }
 {
-    match density_of_count(depth, count) {
-        CountDensity::Density(x) => {
-            *density = x;
-            word(ACCEPTED, 0)
-        }
-        CountDensity::Refused(refusal) => refused(refusal),
-    }
+    count_density_word(density_of_count(depth, count), density)
 }
 
 // The density of a pattern, or that there is none.
@@ -98,11 +81,7 @@ pub extern "C" fn mom_density_of_count(depth: u8, count: u32, density: &mut f64)
 pub extern "C" fn mom_density_of_pattern(pattern: u64, density: &mut f64) -> u64
     ensures { λ r. ⌜ (r, now (density .exit)) ≡ patternDensityWord (densityOfPattern pattern) (now (density .entry)) ⌝ }
 {
-    let PatternDensity::Density(x) = density_of_pattern(pattern) else {
-        return word(NOTHING, 0);
-    };
-    *density = x;
-    word(ACCEPTED, 0)
+    pattern_density_word(density_of_pattern(pattern), density)
 }
 
 // The pattern of a density, or that there is none.
@@ -110,11 +89,7 @@ pub extern "C" fn mom_density_of_pattern(pattern: u64, density: &mut f64) -> u64
 pub extern "C" fn mom_pattern_of_density(density: f64, pattern: &mut u64) -> u64
     ensures { λ r. ⌜ (r, now (pattern .exit)) ≡ densityPatternWord (patternOfDensity density) (now (pattern .entry)) ⌝ }
 {
-    let DensityPattern::Pattern(bits) = pattern_of_density(density) else {
-        return word(NOTHING, 0);
-    };
-    *pattern = bits;
-    word(ACCEPTED, 0)
+    density_pattern_word(pattern_of_density(density), pattern)
 }
 
 // Whether count rows are a valid map, or its first fault with the place.

@@ -7,7 +7,7 @@ use native.Mathlib.Omega.{arith}
 use lib.Ieee.{Float}
 use lib.ListN.{length, take, length-append, length-replicate, replicate}
 use Rattle.zuniq.specs.Codec.{decode}
-use Rattle.zuniq.specs.declared.refusal.Refusal.{Refusal}
+use Rattle.refusal.specs.declared.Refusal.{Refusal}
 use Rattle.merger.specs.Merge.{acceptCounts}
 use Rattle.build.specs.Map.{Entry}
 use Rattle.build.specs.Stack.{run}
@@ -16,9 +16,10 @@ use Rattle.build.specs.Calls.{Buffers, answered, addCall}
 use Rattle.build.specs.Counts.{countsRefusal, countCalls, countsAdded, addCounts}
 use Rattle.build.specs.declared.counts.CountsAdded.{CountsAdded}
 use Rattle.build.proofs.Buffers.{length-laid}
-use Rattle.mombuild.specs.Mombuild.{entriesText, zuniqText, answerText, mapText, places}
+use Rattle.mombuild.specs.Mombuild.{answerText, mapText, places}
+use Rattle.map_text.specs.Lines.{entriesText, zuniqText}
 use Rattle.mombuild.specs.Steps.{EntriesFit}
-use Rattle.mombuild.proofs.Printing.{length-zuniq}
+use Rattle.map_text.proofs.Printing.{length-zuniq}
 
 -- An entry takes at most 63 bytes.
 pub length-entries : (zs ns : List ℕ) → length (entriesText zs ns) ≤ 63 * length zs

@@ -1,9 +1,3 @@
-pub mod Numbers
-pub mod Parts
-pub mod Writing
-pub mod Lines
-pub mod Passing
-pub mod Printing
 pub mod Answers
 pub mod Reading
 pub mod Prefix

@@ -10,7 +10,7 @@ use native.Mathlib.Numerals.{add-one}
 use lib.Ieee.{Float}
 use lib.ListN.{length, take, length-reverse, length-replicate}
 use Rattle.zuniq.specs.Cells.{nHash, end}
-use Rattle.zuniq.specs.declared.refusal.Refusal.{Refusal}
+use Rattle.refusal.specs.declared.Refusal.{Refusal}
 use Rattle.zuniq.proofs.Codec.{cell, decodes}
 use Rattle.zuniq.proofs.Ranges.{start-deepest, end-is-next-start}
 use Rattle.merger.specs.Merge.{acceptCounts}
@@ -28,7 +28,8 @@ use Rattle.build.proofs.DefinedMap.{defined-map-in-range}
 use Rattle.build.proofs.Buffers.{take-filled}
 use Rattle.build.proofs.Checking.{or-else-none, cell-passes}
 use Rattle.build.proofs.Accepted.{counts-accepted, batch-total}
-use Rattle.mombuild.specs.Mombuild.{reading, readable, thousandths, entryText, entriesText, endText, answerText, mapText, places, mombuild}
+use Rattle.mombuild.specs.Mombuild.{reading, readable, thousandths, answerText, mapText, places, mombuild}
+use Rattle.map_text.specs.Lines.{entryText, entriesText, endText}
 
 -- the entries of a map, the first one first
 unfoldable pub linesOf : List (Entry ℕ) → List ℕ

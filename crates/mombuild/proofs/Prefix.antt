@@ -11,13 +11,14 @@ use lib.Dec.{eqb, leb, ltb}
 use lib.ListN.{length, take, drop, length-take, length-drop}
 use lib.Seq.{take-take, length-take-le, take-nil}
 use borrow.Author.Tests.{lt-ltb, le-ltb, leb-true, leb-false, ltb-true, ltb-false}
-use Rattle.mombuild.specs.Text.{lf, comma, position, upTo, past, number}
-use Rattle.mombuild.specs.Mombuild.{settingsOf, settingsLine, firstSettings, cellOf, cellLine, firstCell, Cells, noCells, withCell, unlessEnded, cells, readingOf, reading, printed, mombuild}
-use Rattle.mombuild.specs.declared.text.Number.{Number}
-use Rattle.mombuild.specs.declared.read.SettingsLine.{SettingsLine}
-use Rattle.mombuild.specs.declared.read.CellLine.{CellLine}
-use Rattle.mombuild.proofs.Parts.{position-le}
-use Rattle.mombuild.proofs.Numbers.{number-of-many}
+use Rattle.text.specs.Text.{lf, comma, position, upTo, past, number}
+use Rattle.mombuild.specs.Mombuild.{readingOf, reading, printed, mombuild}
+use Rattle.map_text.specs.Lines.{settingsOf, settingsLine, firstSettings, cellOf, cellLine, firstCell, Cells, noCells, withCell, unlessEnded, cells}
+use Rattle.text.specs.declared.Number.{Number}
+use Rattle.map_text.specs.declared.read.SettingsLine.{SettingsLine}
+use Rattle.map_text.specs.declared.read.CellLine.{CellLine}
+use Rattle.text.proofs.Parts.{position-le}
+use Rattle.text.proofs.Numbers.{number-of-many}
 
 -- ---- long lines
 length-upTo : (b : ℕ) (l : List ℕ) → length (upTo b l) ≡ position b l

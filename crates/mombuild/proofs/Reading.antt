@@ -12,11 +12,12 @@ use lib.ListN.{length, take, drop, length-append}
 use lib.Seq.{take-at}
 use borrow.Author.Tests.{lt-ltb, le-ltb}
 use Rattle.merger.specs.Floats.{_⊘_, float}
-use Rattle.mombuild.specs.Text.{lf, position, upTo, past}
-use Rattle.mombuild.specs.Mombuild.{settingsLine, firstSettings, Cells, cells, reading, thousandths, refusedText, mapText, mombuild}
-use Rattle.mombuild.specs.Steps.{cellLines, CellsAre}
-use Rattle.mombuild.specs.declared.read.SettingsLine.{SettingsLine}
-use Rattle.mombuild.specs.declared.read.CellLines.{CellLines}
+use Rattle.text.specs.Text.{lf, position, upTo, past}
+use Rattle.mombuild.specs.Mombuild.{reading, thousandths, mapText, mombuild}
+use Rattle.map_text.specs.Lines.{settingsLine, firstSettings, Cells, cells, refusedText}
+use Rattle.map_text.specs.Steps.{cellLines, CellsAre}
+use Rattle.map_text.specs.declared.read.SettingsLine.{SettingsLine}
+use Rattle.map_text.specs.declared.read.CellLines.{CellLines}
 
 -- T is divided by the f64 that is 1000.
 pub thousandths-is : (T : ℕ) → float T ⊘ fin false 125 (pos 3) ≡ thousandths T

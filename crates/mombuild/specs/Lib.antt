@@ -1,3 +1,2 @@
-pub mod Text
 pub mod Mombuild
 pub mod Steps

@@ -15,26 +15,21 @@
 // The work is done by `mombuild`, on slices; `main` only reads, calls it and writes.
 ghost use Prim.Native.Nat.{_+_, _≤_};
 ghost use lib.ListN.{length};
-ghost use Rattle.mombuild.specs.Text.{Written};
+ghost use Rattle.text.specs.Text.{Written};
 ghost use Rattle.mombuild.specs.Mombuild.{mombuild as mombuildOf, mapText, answerText};
 ghost use Rattle.mombuild.specs.Steps.{EntriesFit};
-
-mod print;
-mod read;
-mod text;
-
 use build::counts::CountsAdded;
-use build::counts::add_counts;
+use build_counts::add_counts;
 use libc::STDIN_FILENO;
 use libc::STDOUT_FILENO;
-use print::print_end;
-use print::print_entries;
-use print::print_refused;
-use read::CellLines;
-use read::MAX_CELLS;
-use read::SettingsLine;
-use read::read_cells;
-use read::read_settings;
+use map_text::print::print_end;
+use map_text::print::print_entries;
+use map_text::print::print_refused;
+use map_text::read::CellLines;
+use map_text::read::MAX_CELLS;
+use map_text::read::SettingsLine;
+use map_text::read::read_cells;
+use map_text::read::read_settings;
 use text::LF;
 use text::find;
 

@@ -8,7 +8,7 @@ use native.Mathlib.Omega.{arith}
 use lib.Dec.{eqb, ltb}
 use lib.ListN.{length, drop}
 use borrow.Author.Tests.{le-ltb, ltb-false, eq-eqb, eqb-true}
-use Rattle.zuniq.specs.declared.refusal.Refusal.{Refusal}
+use Rattle.refusal.specs.declared.Refusal.{Refusal}
 use Rattle.rows.specs.declared.Rows.{Rows}
 use Rattle.rows.specs.Rows.{Column, rowSize, rowsBytes, filled, lengths, othersDiffer, differ, places, rowsToRead, rowsToWrite, readAs, readRows, writeAs, writeRows}
 

@@ -6,4 +6,3 @@ pub mod Zuniqs
 pub mod RowsAgain
 pub mod BytesAgain
 pub mod RoundTrips
-pub mod Densities

@@ -8,7 +8,7 @@ use native.Mathlib.Numerals.{add-one}
 use native.Mathlib.Omega.{arith}
 use lib.ListN.{length, getD, take, drop, set, length-append, length-drop}
 use lib.Seq.{drop-cons, append-snoc, drop-drop, set-at}
-use Rattle.zuniq.specs.declared.refusal.Refusal.{Refusal}
+use Rattle.refusal.specs.declared.Refusal.{Refusal}
 use Rattle.rows.specs.declared.Rows.{Rows}
 use Rattle.rows.specs.LittleEndian.{toLeBytes, fromLeBytes, put}
 use Rattle.rows.specs.Rows.{Column, column, rowSize, rowBytes, rowsBytes, numberIn, numbersIn, filled, lengths, places, rowsToRead, rowsToWrite, readAs, readRows, writeAs, writeRows}

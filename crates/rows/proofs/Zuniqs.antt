@@ -6,7 +6,7 @@ use native.Mathlib.Nat.{le-add-right}
 use lib.ListN.{length, take, drop, length-append}
 use lib.Seq.{take-append-seam}
 use borrow.Author.Tests.{eq-eqb}
-use Rattle.zuniq.specs.declared.refusal.Refusal.{Refusal}
+use Rattle.refusal.specs.declared.Refusal.{Refusal}
 use Rattle.rows.specs.declared.Rows.{Rows}
 use Rattle.rows.specs.Rows.{numbersIn, zuniqsOf, othersDiffer, differ, places, rowsToRead, readZuniqsAs, readZuniqs}
 use Rattle.rows.proofs.Accepted.{readable, refused}

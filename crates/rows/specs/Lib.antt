@@ -1,3 +1,2 @@
 pub mod LittleEndian
 pub mod Rows
-pub mod Densities

@@ -11,7 +11,7 @@ use Rattle.zuniq.proofs.Basics.{and-is-true, four-pow-pos, four-pow-spl
 use borrow.Author.Tests.{lt-ltb, ltb-true, ltb-false, eq-eqb, eqb-true, le-ltb, lt-leb, leb-false}
 use Rattle.zuniq.specs.Cells.{nHash}
 use Rattle.zuniq.specs.Codec.{zuniq, IsZuniqOf, encode, hashAt, isZuniqAt, cellUpTo, decode}
-use Rattle.zuniq.specs.declared.refusal.Refusal.{Refusal}
+use Rattle.refusal.specs.declared.Refusal.{Refusal}
 use Rattle.zuniq.specs.declared.Cell.{Cell}
 use Rattle.zuniq.specs.declared.Encoded.{Encoded}
 use Rattle.zuniq.specs.declared.Decoded.{Decoded}

@@ -5,7 +5,7 @@ use mathlib.Core.Path.{_≡_}
 use Prim.Native.Nat.{ℕ, zero, suc, _+_, _*_, _/_, _-_, _^_, _≤_, _<_}
 use lib.Dec.{eqb, leb, ltb}
 use Rattle.zuniq.specs.Cells.{nHash, overlap}
-use Rattle.zuniq.specs.declared.refusal.Refusal.{Refusal}
+use Rattle.refusal.specs.declared.Refusal.{Refusal}
 use Rattle.zuniq.specs.declared.Cell.{Cell}
 use Rattle.zuniq.specs.declared.CellNumber.{CellNumber}
 use Rattle.zuniq.specs.declared.Encoded.{Encoded}

@@ -11,9 +11,6 @@ ghost use mathlib.Core.Path.{_≡_};
 ghost use Prim.Native.Nat.{_≤_, _<_};
 ghost use Rattle.zuniq.specs.Cells.{nHash, overlap};
 ghost use Rattle.zuniq.specs.Codec.{zuniq, cellNumber, encode, decode, overlapTest};
-
-pub mod refusal;
-
 use refusal::Refusal;
 
 // A cell of the sky.

@@ -1,62 +1,17 @@
 -- `mom_chi2_count_merger` meets its contract. Assumes nothing.
-use mathlib.Core.Path.{refl}
 use borrow.Author.Needs.{needs}
-use Rattle.mom_c.specs.Words.{countMergerWord}
 use Rattle.mom_c.proofs.mom_chi2_count_merger.Statement.{statement}
 use Rattle.mom_c.proofs.mom_chi2_count_merger.Tie as tie
 
 chi2-count-merger-requires : tie.Need-chi2-count-merger-requires
 chi2-count-merger-requires c κs = search needs
 
-enum-known-refusal : tie.Need-enum-known-refusal
-enum-known-refusal c = search needs
-
-refused-requires : tie.Need-refused-requires
-refused-requires c κs = search needs
-
-enum-known-merge : tie.Need-enum-known-merge
-enum-known-merge c = search needs
-
-enum-known-merge-2 : tie.Need-enum-known-merge-2
-enum-known-merge-2 c = search needs
-
-cast-word : tie.Need-cast-word
-cast-word c = search needs
-
-word-requires : tie.Need-word-requires
-word-requires c κs = search needs
-
-enum-known-merge-3 : tie.Need-enum-known-merge-3
-enum-known-merge-3 c = search needs
-
-word-requires-2 : tie.Need-word-requires-2
-word-requires-2 c κs = search needs
+count-merger-word-requires : tie.Need-count-merger-word-requires
+count-merger-word-requires c κs = search needs
 
 returns : tie.Need-returns
-unfolding countMergerWord
-returns c = rw (← c .before .before .before .before .chi2-count-merger .ensures, c .before .before .refusal .given .1, c .refused .ensures) refl
-
-returns-2 : tie.Need-returns-2
-unfolding countMergerWord
-returns-2 c = rw (← c .before .before .before .before .before .before .before .chi2-count-merger .ensures, c .before .before .before .before .before .merge .given .1, c .before .before .merge2 .given .1, c .word .ensures) refl
-
-returns-3 : tie.Need-returns-3
-unfolding countMergerWord
-returns-3 c = rw (← c .before .before .before .before .before .before .before .chi2-count-merger .ensures, c .before .before .before .before .before .merge .given .1, c .before .before .merge3 .given .1, c .word2 .ensures) refl
+returns c = rw (← c .before .before .chi2-count-merger .ensures) (c .count-merger-word .ensures)
 
 pub mom-chi2-count-merger-spec : {M : Type 1} → statement M
 mom-chi2-count-merger-spec =
-    tie.close
-    (tie.spec
-    chi2-count-merger-requires
-    enum-known-refusal
-    refused-requires
-    enum-known-merge
-    enum-known-merge-2
-    cast-word
-    word-requires
-    enum-known-merge-3
-    word-requires-2
-    returns
-    returns-2
-    returns-3)
+    tie.close (tie.spec chi2-count-merger-requires count-merger-word-requires returns)

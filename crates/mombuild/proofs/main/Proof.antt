@@ -2,7 +2,7 @@
 use mathlib.Core.Path.{sym}
 use lib.Seq.{length-take-le}
 use borrow.Author.Needs.{needs}
-use Rattle.mombuild.proofs.Writing.{written-within}
+use Rattle.text.proofs.Writing.{written-within}
 use Rattle.mombuild.proofs.main.Statement.{statement}
 use Rattle.mombuild.proofs.main.Tie as tie
 

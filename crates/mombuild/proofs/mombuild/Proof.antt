@@ -4,9 +4,9 @@ use native.Mathlib.Omega.{arith}
 use lib.Ieee.{ofBits}
 use lib.Seq.{length-take-le}
 use borrow.Author.Needs.{needs}
-use Rattle.mombuild.specs.Text.{lf}
-use Rattle.mombuild.proofs.Parts.{behind-is}
-use Rattle.mombuild.proofs.Writing.{written-as}
+use Rattle.text.specs.Text.{lf}
+use Rattle.text.proofs.Parts.{behind-is}
+use Rattle.text.proofs.Writing.{written-as}
 use Rattle.mombuild.proofs.Reading.{thousandths-is, unended, no-settings, no-cell, within, all-cells}
 use Rattle.mombuild.proofs.mombuild.Statement.{statement}
 use Rattle.mombuild.proofs.mombuild.Tie as tie

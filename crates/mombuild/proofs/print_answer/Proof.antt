@@ -3,7 +3,7 @@ use mathlib.Core.Path.{sym, _∙_}
 use native.Mathlib.Omega.{arith}
 use lib.ListN.{take}
 use lib.Seq.{length-take-le}
-use Rattle.mombuild.proofs.Writing.{written-on}
+use Rattle.text.proofs.Writing.{written-on}
 use Rattle.mombuild.proofs.Answers.{length-entries}
 use borrow.Author.Needs.{needs}
 use Rattle.mombuild.proofs.print_answer.Statement.{statement}

@@ -4,7 +4,7 @@ use Prim.Native.Nat.{ℕ}
 use native.Mathlib.Omega.{arith}
 use lib.ListN.{length-replicate}
 use Rattle.mombuild.specs.Mombuild.{places}
-use Rattle.mombuild.proofs.Writing.{written-as}
+use Rattle.text.proofs.Writing.{written-as}
 use Rattle.mombuild.proofs.Answers.{map-fits, map-text-is}
 use borrow.Author.Needs.{needs}
 use Rattle.mombuild.proofs.print_map.Statement.{statement}

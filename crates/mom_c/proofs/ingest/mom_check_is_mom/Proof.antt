@@ -4,7 +4,7 @@ use native.Mathlib.Omega.{arith}
 use Prim.Native.Nat.{ℕ}
 use lib.ListN.{length-replicate}
 use lib.Seq.{length-take-le}
-use Rattle.mom_c.specs.Words.{mapCheckWord}
+use Rattle.words.specs.Words.{mapCheckWord}
 use Rattle.mom_c.proofs.MapRows.{rows-held, check-read, check-refused, check-too-deep}
 use borrow.Author.Needs.{needs}
 use Rattle.mom_c.proofs.ingest.mom_check_is_mom.Statement.{statement}

@@ -4,7 +4,7 @@ use native.Mathlib.Omega.{arith}
 use Prim.Native.Nat.{ℕ}
 use lib.ListN.{length-replicate}
 use lib.Seq.{length-take-le}
-use Rattle.mom_c.specs.Words.{containingWord}
+use Rattle.words.specs.Words.{containingWord}
 use Rattle.mom_c.proofs.MapRows.{rows-held, containing-read, containing-refused, containing-too-deep}
 use borrow.Author.Needs.{needs}
 use Rattle.mom_c.proofs.ingest.mom_get_cell_containing.Statement.{statement}

@@ -3,7 +3,7 @@ use mathlib.Core.Path.{sym}
 use Prim.Native.Nat.{ℕ}
 use lib.ListN.{length-replicate}
 use lib.Seq.{length-take-le}
-use Rattle.mom_c.specs.Words.{runWord}
+use Rattle.words.specs.Words.{runWord}
 use Rattle.mom_c.proofs.MapRows.{rows-held, run-read, run-refused}
 use borrow.Author.Needs.{needs}
 use Rattle.mom_c.proofs.ingest.mom_get_overlapped_cells.Statement.{statement}

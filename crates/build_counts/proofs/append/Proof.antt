@@ -1,0 +1,62 @@
+-- `append` meets its contract. Assumes nothing.
+use borrow.Author.Needs.{needs}
+use Rattle.build.proofs.Places.{put-front}
+use Rattle.build_counts.proofs.append.Statement.{statement}
+use Rattle.build_counts.proofs.append.Tie as tie
+
+mul-put-zuniq : tie.Need-mul-put-zuniq
+mul-put-zuniq c = search needs
+
+sub-put-zuniq : tie.Need-sub-put-zuniq
+sub-put-zuniq c = search needs
+
+part-put-zuniq-start : tie.Need-part-put-zuniq-start
+part-put-zuniq-start c = search needs
+
+part-put-zuniq-end : tie.Need-part-put-zuniq-end
+part-put-zuniq-end c = search needs
+
+put-zuniq-requires : tie.Need-put-zuniq-requires
+put-zuniq-requires c κs = search needs
+
+mul-put-count : tie.Need-mul-put-count
+mul-put-count c = search needs
+
+sub-put-count : tie.Need-sub-put-count
+sub-put-count c = search needs
+
+part-put-count-start : tie.Need-part-put-count-start
+part-put-count-start c = search needs
+
+part-put-count-end : tie.Need-part-put-count-end
+part-put-count-end c = search needs
+
+put-count-requires : tie.Need-put-count-requires
+put-count-requires c κs = search needs
+
+same-length : tie.Need-same-length
+same-length c = search needs
+
+same-length-2 : tie.Need-same-length-2
+same-length-2 c = search needs
+
+returns : tie.Need-returns
+returns c = let a = c .before .before .before .before .before .before .before .before .before .before .args in (put-front (a .n) (a .zuniqs .now) _ (a .zuniq) (c .before .before .before .before .before .before .before .before .before .before .pre .0) (c .before .before .before .before .before .before .put-zuniq .ensures), put-front (a .n) (a .counts .now) _ (a .count) (c .before .before .before .before .before .before .before .before .before .before .pre .1) (c .before .before .put-count .ensures))
+
+pub append-spec : {M : Type 1} → statement M
+append-spec =
+    tie.close
+    (tie.spec
+    mul-put-zuniq
+    sub-put-zuniq
+    part-put-zuniq-start
+    part-put-zuniq-end
+    put-zuniq-requires
+    mul-put-count
+    sub-put-count
+    part-put-count-start
+    part-put-count-end
+    put-count-requires
+    same-length
+    same-length-2
+    returns)

@@ -1,0 +1,38 @@
+-- The scope's table "Refusals in checking order": "A refusal is its number and a place, counted from 0 and 0 unless said".
+use Prim.Native.Nat.{ℕ}
+use Rattle.refusal.specs.declared.Refusal.{Refusal}
+use Rattle.refusal.specs.declared.Refusal.the-variants.{DepthOutOfRange, DepthThresholdOutOfRange, Chi2ThresholdIsNan, InvalidFactor, LengthMismatch, InvalidMap, InvalidMapDensity, HashOutOfRange, CellNotAbove, InvalidDensity, CountOverflow, ProductNotFinite, NoSpace, InvalidQuery}
+
+-- the row of the table
+abbrev pub numberOf : Refusal → ℕ
+numberOf DepthOutOfRange = 1
+numberOf DepthThresholdOutOfRange = 2
+numberOf Chi2ThresholdIsNan = 3
+numberOf InvalidFactor = 3
+numberOf LengthMismatch = 4
+numberOf (InvalidMap entry) = 5
+numberOf (InvalidMapDensity entry) = 6
+numberOf (HashOutOfRange cell) = 7
+numberOf (CellNotAbove cell) = 8
+numberOf (InvalidDensity cell) = 9
+numberOf (CountOverflow cell) = 10
+numberOf ProductNotFinite = 10
+numberOf NoSpace = 11
+numberOf (InvalidQuery query) = 12
+
+-- the place that the row names, 0 where it names none
+abbrev pub placeOf : Refusal → ℕ
+placeOf DepthOutOfRange = 0
+placeOf DepthThresholdOutOfRange = 0
+placeOf Chi2ThresholdIsNan = 0
+placeOf InvalidFactor = 0
+placeOf LengthMismatch = 0
+placeOf (InvalidMap entry) = entry
+placeOf (InvalidMapDensity entry) = entry
+placeOf (HashOutOfRange cell) = cell
+placeOf (CellNotAbove cell) = cell
+placeOf (InvalidDensity cell) = cell
+placeOf (CountOverflow cell) = cell
+placeOf ProductNotFinite = 0
+placeOf NoSpace = 0
+placeOf (InvalidQuery query) = query

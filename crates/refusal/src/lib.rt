@@ -1,0 +1,83 @@
+// Why a call is refused. All calls of the library share this type; each names the cases it gives.
+// A refusal touches no lent memory.
+ghost use mathlib.Core.Path.{_≡_};
+ghost use Rattle.refusal.specs.Refusals.{numberOf, placeOf};
+
+// A case for each thing that can be wrong, in checking order. A case that has a place holds it:
+// the entry of a map, the cell of a batch, the child of a merger's four, the query of a test's two.
+pub enum Refusal {
+    // The depth is over the largest, or 0 in an add call, or a merger's parent depth is the largest.
+    DepthOutOfRange,
+    // M, the shallowest parent depth at which merging is allowed, is over the largest depth.
+    DepthThresholdOutOfRange,
+    // T, the chi-square threshold, is NaN.
+    Chi2ThresholdIsNan,
+    // k, the factor of a product, is NaN, infinite or below 0.
+    InvalidFactor,
+    // Paired buffers differ in length, a stated number exceeds its buffer, or row bytes are uneven.
+    LengthMismatch,
+    // A held or given map is invalid at this entry.
+    InvalidMap(usize),
+    // A held or given density is NaN, infinite or below 0 at this entry.
+    InvalidMapDensity(usize),
+    // The hash of this cell is not one of its depth.
+    HashOutOfRange(usize),
+    // This cell is not above the one before, or starts before the last held entry ends.
+    CellNotAbove(usize),
+    // The density of this cell or child is NaN, infinite or below 0.
+    InvalidDensity(usize),
+    // The counts exceed what a u32 holds; in an add call, this cell passes it.
+    CountOverflow(usize),
+    // The product of an overlay cell is not finite.
+    ProductNotFinite,
+    // The output has too few places.
+    NoSpace,
+    // This query is not a valid zuniq or not at the depth asked for.
+    InvalidQuery(usize),
+}
+
+impl Refusal {
+    // The number that the scope's table of refusals gives this case.
+    pub fn number(self) -> u8
+        ensures { λ r. ⌜ r ≡ numberOf self ⌝ }
+    {
+        match self {
+            Refusal::DepthOutOfRange => 1,
+            Refusal::DepthThresholdOutOfRange => 2,
+            Refusal::Chi2ThresholdIsNan => 3,
+            Refusal::InvalidFactor => 3,
+            Refusal::LengthMismatch => 4,
+            Refusal::InvalidMap(_) => 5,
+            Refusal::InvalidMapDensity(_) => 6,
+            Refusal::HashOutOfRange(_) => 7,
+            Refusal::CellNotAbove(_) => 8,
+            Refusal::InvalidDensity(_) => 9,
+            Refusal::CountOverflow(_) => 10,
+            Refusal::ProductNotFinite => 10,
+            Refusal::NoSpace => 11,
+            Refusal::InvalidQuery(_) => 12,
+        }
+    }
+
+    // Where it is wrong, counted from 0; 0 where the case has no place.
+    pub fn place(self) -> usize
+        ensures { λ r. ⌜ r ≡ placeOf self ⌝ }
+    {
+        match self {
+            Refusal::DepthOutOfRange => 0,
+            Refusal::DepthThresholdOutOfRange => 0,
+            Refusal::Chi2ThresholdIsNan => 0,
+            Refusal::InvalidFactor => 0,
+            Refusal::LengthMismatch => 0,
+            Refusal::InvalidMap(entry) => entry,
+            Refusal::InvalidMapDensity(entry) => entry,
+            Refusal::HashOutOfRange(cell) => cell,
+            Refusal::CellNotAbove(cell) => cell,
+            Refusal::InvalidDensity(cell) => cell,
+            Refusal::CountOverflow(cell) => cell,
+            Refusal::ProductNotFinite => 0,
+            Refusal::NoSpace => 0,
+            Refusal::InvalidQuery(query) => query,
+        }
+    }
+}

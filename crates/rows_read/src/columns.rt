@@ -1,0 +1,32 @@
+// The numbers of one column: those that start at byte `at` of each row. Rows are read a column at a
+// time, and not row by row, because stores side by side are faster than stores that go to two
+// buffers in turn.
+ghost use mathlib.Core.Path.{_≡_};
+ghost use mathlib.Core.List.{_++_};
+ghost use Prim.Native.Nat.{_+_, _*_, _≤_};
+ghost use lib.ListN.{length, drop};
+ghost use Rattle.rows.specs.Rows.{numbersIn};
+use rows::little_endian::u32_at;
+use rows::little_endian::u64_at;
+
+pub fn read_u32_column(bytes: &[u8], row_size: usize, at: usize, rows: usize, numbers: &mut [u32])
+    requires { ⌜ (at + 4 ≤ «row_size») × (rows * «row_size» ≤ length (now bytes)) × (rows ≤ length (now numbers)) ⌝ }
+    ensures { λ _. ⌜ now (numbers .exit) ≡ numbersIn «row_size» at 4 (now (bytes .entry)) rows ++ drop rows (now (numbers .entry)) ⌝ }
+{
+    let mut row = 0;
+    while row < rows {
+        numbers[row] = u32_at(bytes, row * row_size + at);
+        row += 1;
+    }
+}
+
+pub fn read_u64_column(bytes: &[u8], row_size: usize, at: usize, rows: usize, numbers: &mut [u64])
+    requires { ⌜ (at + 8 ≤ «row_size») × (rows * «row_size» ≤ length (now bytes)) × (rows ≤ length (now numbers)) ⌝ }
+    ensures { λ _. ⌜ now (numbers .exit) ≡ numbersIn «row_size» at 8 (now (bytes .entry)) rows ++ drop rows (now (numbers .entry)) ⌝ }
+{
+    let mut row = 0;
+    while row < rows {
+        numbers[row] = u64_at(bytes, row * row_size + at);
+        row += 1;
+    }
+}
