@@ -4,14 +4,15 @@
 #
 #     host/run.sh [SECONDS [SEED]]
 #
-# First what needs the archive or the program alone: the C header, the crate `mom`, the runs of
-# `mombuild` beside a reading of its rules, a sixth of SECONDS of them on random texts, and every C
-# function on random arguments, for about SECONDS of processor time, so half as long on two cores.
-# Both draw from a seed of their own, the same in every run. Then the live comparison with the
-# original Rust, both where its arithmetic wraps (release) and where it panics (checked): the tests
-# of `oracle` and `differential`, and the comparison itself, for SECONDS in all (60) from SEED (1).
-# Last, that the stored answers in crates/replay/stdin are those that the original gives.
-# Where docs/src or the crates can't be had, the live comparison says `skipped` and why.
+# First what is mostly compiling, two at a time: the C header, the crate `mom` and the runs of
+# `mombuild` beside a reading of its rules, a sixth of SECONDS of them on random texts; and the tests
+# of `oracle` and `differential` beside the original Rust, both where its arithmetic wraps (release)
+# and where it panics (checked). Then, alone on all cores, what is measured in time: every C function
+# on random arguments, for about SECONDS of processor time, so half as long on two cores, and the live
+# comparison with the original, for SECONDS in all (60) from SEED (1), half of them for each of the
+# two. The random texts and arguments are drawn from a seed of their own, the same in every run. Last,
+# that the stored answers in crates/replay/stdin are those that the original gives. Where docs/src or
+# the crates can't be had, the live comparison says `skipped` and why.
 #
 # The last line is `N passed, M failed`, or `N passed, M failed, K skipped`, over everything that
 # was counted; the status is 0 where M is 0. Every cargo call is offline (.cargo/config.toml).
@@ -23,25 +24,48 @@ seed=${2:-1}
 [ -z "${MOM_LIB_DIR:-}" ] || export MOM_LIB_DIR=$(realpath -m "$MOM_LIB_DIR")
 cd "$(dirname "$0")" || exit 1
 passed=0 failed=0 skipped=0
-log=$(mktemp) || exit 1
-trap 'rm -f "$log"' EXIT
+logs=$(mktemp -d) || exit 1
+trap 'rm -rf "$logs"' EXIT
 
-# part NAME COMMAND..: runs a command and adds up the lines in which it counts, `N passed, M failed`
-# or cargo's `N passed; M failed`. One that ends badly without counting a failure (it doesn't
-# compile, say), or that counts nothing at all, is a failure itself.
-part() {
-    local name=$1 status good bad
-    shift
-    echo "== $name"
-    "$@" 2>&1 | tee "$log"
-    status=${PIPESTATUS[0]}
-    read -r good bad < <(sed -En 's/.*\b([0-9]+) passed[,;] ([0-9]+) failed.*/\1 \2/p' "$log" |
+# count NAME STATUS LOG: adds up the lines in which a command counted, `N passed, M failed` or cargo's
+# `N passed; M failed`. One that ended badly without counting a failure (it doesn't compile, say), or
+# that counted nothing at all, is a failure itself.
+count() {
+    local name=$1 status=$2 good bad
+    read -r good bad < <(sed -En 's/.*\b([0-9]+) passed[,;] ([0-9]+) failed.*/\1 \2/p' "$3" |
         awk '{ good += $1; bad += $2 } END { print good + 0, bad + 0 }')
     if [ "$bad" = 0 ] && { [ "$status" != 0 ] || [ "$good" = 0 ]; }; then
         echo "$name: status $status, $good passed: counted as failed"
         bad=1
     fi
     passed=$((passed + good)) failed=$((failed + bad))
+}
+
+# part NAME COMMAND..: runs a command and counts what it counted.
+part() {
+    local name=$1
+    shift
+    echo "== $name"
+    "$@" 2>&1 | tee "$logs/part"
+    count "$name" "${PIPESTATUS[0]}" "$logs/part"
+}
+
+# aside NAME COMMAND..: runs a command, and keeps what it says for `report NAME`.
+aside() {
+    local name=$1
+    shift
+    ("$@") > "$logs/$name" 2>&1
+    echo $? > "$logs/$name.status"
+}
+
+# report NAME..: shows what commands said that ran aside, and counts what they counted.
+report() {
+    local name
+    for name; do
+        echo "== $name"
+        cat "$logs/$name"
+        count "$name" "$(cat "$logs/$name.status")" "$logs/$name"
+    done
 }
 
 c_header() {
@@ -79,14 +103,28 @@ can_compare() {
     ./oracle/fetch.sh 2>&1
 }
 
-part "C header" c_header
-part "mom" mom_tests
-part "mombuild" mombuild_tests
+# The test binaries of the two profiles lie in two directories, which cargo locks one by one.
+tests_of() {
+    cargo test --quiet --no-fail-fast --profile "$@"
+}
+
+comparable=yes
+reason=$(can_compare) || comparable=no
+{
+    aside "C header" c_header
+    aside "mom" mom_tests
+    aside "mombuild" mombuild_tests
+    # Without the package that measures times: the release build compiles it.
+    [ $comparable = no ] ||
+        aside "oracle and differential, checked" tests_of checked --package oracle --package differential
+} &
+[ $comparable = no ] || aside "oracle and differential, release" tests_of release --workspace
+wait
+report "C header" "mom" "mombuild"
+[ $comparable = no ] || report "oracle and differential, release" "oracle and differential, checked"
 part "random arguments" fuzz
-if reason=$(can_compare); then
+if [ $comparable = yes ]; then
     for profile in release checked; do
-        part "oracle and differential, $profile" \
-            cargo test --quiet --no-fail-fast --workspace --profile "$profile"
         part "live comparison, $profile" \
             cargo run --quiet --profile "$profile" --package differential --bin differential -- \
             --seconds $(((seconds + 1) / 2)) --seed "$seed"
