@@ -11,8 +11,9 @@
 # on random arguments, for about SECONDS of processor time, so half as long on two cores, and the live
 # comparison with the original, for SECONDS in all (60) from SEED (1), half of them for each of the
 # two. The random texts and arguments are drawn from a seed of their own, the same in every run. Last,
-# that the stored answers in crates/replay/stdin are those that the original gives. Where docs/src or
-# the crates can't be had, the live comparison says `skipped` and why.
+# that the stored answers in crates/replay/stdin are those that the original gives, and that both
+# sides of the benchmark answer alike. Where docs/src or the crates can't be had, the live comparison
+# says `skipped` and why.
 #
 # The last line is `N passed, M failed`, or `N passed, M failed, K skipped`, over everything that
 # was counted; the status is 0 where M is 0. Every cargo call is offline (.cargo/config.toml).
@@ -94,6 +95,12 @@ stored_answers() {
         echo "1 passed, 0 failed"
 }
 
+# The benchmark on small works, once: that both sides answer alike. No time is looked at.
+bench_answers() {
+    cargo build --quiet --release --package bench &&
+        target/release/bench --small --rounds 1 > target/bench && echo "1 passed, 0 failed"
+}
+
 # Whether the originals and the crates can be had; says why where they can't.
 can_compare() {
     if [ ! -f "${ORACLE_DOCS:-../../shared/docs/src}/src/nested/mod.rs" ]; then
@@ -130,6 +137,7 @@ if [ $comparable = yes ]; then
             --seconds $(((seconds + 1) / 2)) --seed "$seed"
     done
     part "stored answers" stored_answers
+    part "benchmark, answers only" bench_answers
 else
     echo "live comparison: skipped ($reason)"
     skipped=1
