@@ -7,8 +7,9 @@
 //
 // The calls that check their input are in `merger_calls`.
 //
-// `merge_counts`, `merge_densities` and `merge_densities_with` refuse nothing: they are for callers that have checked their
-// input. Like the source's mergers they are handed the parent's hash too, at which no rule looks.
+// `merge_counts`, `merge_densities` and `merge_densities_with` refuse nothing: they are for callers
+// that have checked their input. Like the source's mergers they are handed the parent's hash too, at
+// which no rule looks.
 ghost use mathlib.Core.Path.{_≡_};
 ghost use Prim.Native.Nat.{_+_, _≤_};
 ghost use lib.Ieee.{isNan};

@@ -9,7 +9,13 @@ ghost use Rattle.rows.specs.Rows.{numbersIn};
 use rows::little_endian::u32_at;
 use rows::little_endian::u64_at;
 
-pub fn read_u32_column(bytes: &[u8], row_size: usize, at: usize, rows: usize, numbers: &mut [u32])
+pub(crate) fn read_u32_column(
+    bytes: &[u8],
+    row_size: usize,
+    at: usize,
+    rows: usize,
+    numbers: &mut [u32],
+)
     requires { ⌜ (at + 4 ≤ «row_size») × (rows * «row_size» ≤ length (now bytes)) × (rows ≤ length (now numbers)) ⌝ }
     ensures { λ _. ⌜ now (numbers .exit) ≡ numbersIn «row_size» at 4 (now (bytes .entry)) rows ++ drop rows (now (numbers .entry)) ⌝ }
 {
@@ -20,7 +26,13 @@ pub fn read_u32_column(bytes: &[u8], row_size: usize, at: usize, rows: usize, nu
     }
 }
 
-pub fn read_u64_column(bytes: &[u8], row_size: usize, at: usize, rows: usize, numbers: &mut [u64])
+pub(crate) fn read_u64_column(
+    bytes: &[u8],
+    row_size: usize,
+    at: usize,
+    rows: usize,
+    numbers: &mut [u64],
+)
     requires { ⌜ (at + 8 ≤ «row_size») × (rows * «row_size» ≤ length (now bytes)) × (rows ≤ length (now numbers)) ⌝ }
     ensures { λ _. ⌜ now (numbers .exit) ≡ numbersIn «row_size» at 8 (now (bytes .entry)) rows ++ drop rows (now (numbers .entry)) ⌝ }
 {

@@ -1,36 +1,18 @@
 //! What is worked on. A seed fixes every input, so that all runs time the same work.
 
+use differential::random::Random;
 use oracle::run;
 
-/// SplitMix64 (Steele, Lea and Flood 2014).
-pub struct Random(pub u64);
-
-impl Random {
-    pub fn bits(&mut self) -> u64 {
-        self.0 = self.0.wrapping_add(0x9e37_79b9_7f4a_7c15);
-        let z = (self.0 ^ self.0 >> 30).wrapping_mul(0xbf58_476d_1ce4_e5b9);
-        let z = (z ^ z >> 27).wrapping_mul(0x94d0_49bb_1331_11eb);
-        z ^ z >> 31
+/// Poisson of that mean: how many uniform factors it takes to fall below e^−mean (Knuth).
+pub fn poisson(random: &mut Random, mean: f64) -> u32 {
+    let mut unit = || (random.bits() >> 11) as f64 / (1u64 << 53) as f64;
+    let limit = (-mean).exp();
+    let (mut product, mut number) = (unit(), 0);
+    while product > limit {
+        product *= unit();
+        number += 1;
     }
-
-    pub fn below(&mut self, n: u64) -> u64 {
-        ((self.bits() as u128 * n as u128) >> 64) as u64
-    }
-
-    fn unit(&mut self) -> f64 {
-        (self.bits() >> 11) as f64 / (1u64 << 53) as f64
-    }
-
-    /// Poisson of that mean: how many uniform factors it takes to fall below e^−mean (Knuth).
-    pub fn poisson(&mut self, mean: f64) -> u32 {
-        let limit = (-mean).exp();
-        let (mut product, mut number) = (self.unit(), 0);
-        while product > limit {
-            product *= self.unit();
-            number += 1;
-        }
-        number
-    }
+    number
 }
 
 /// Cells of one depth, rising, with a value each.
@@ -52,21 +34,21 @@ impl<V: Copy> Cells<V> {
 
 /// The first cells of a depth with Poisson counts of mean 8.
 pub fn first_cells(depth: u8, number: usize) -> Cells<u32> {
-    let mut random = Random(9);
+    let mut random = Random::new(9);
     Cells {
         depth,
         hashes: (0..number as u64).collect(),
-        values: (0..number).map(|_| random.poisson(8.0)).collect(),
+        values: (0..number).map(|_| poisson(&mut random, 8.0)).collect(),
     }
 }
 
 /// Each cell of a depth with chance 1/4, with Poisson counts of mean 8.
 pub fn random_quarter(depth: u8) -> Cells<u32> {
-    let mut random = Random(10);
+    let mut random = Random::new(10);
     let hashes: Vec<u64> = (0..run::n_hash(depth))
         .filter(|_| random.below(4) == 0)
         .collect();
-    let values = hashes.iter().map(|_| random.poisson(8.0)).collect();
+    let values = hashes.iter().map(|_| poisson(&mut random, 8.0)).collect();
     Cells {
         depth,
         hashes,
@@ -124,7 +106,7 @@ impl<V: Copy> Map<V> {
 /// A map of about `number` entries: of the cells of a depth, in runs that are there or not, those
 /// whose siblings are all there and alike by chi-square are merged.
 pub fn count_map(depth: u8, number: usize, seed: u64) -> Map<u32> {
-    let mut random = Random(seed);
+    let mut random = Random::new(seed);
     let mut hashes: Vec<u64> = Vec::with_capacity(2 * number);
     let mut hash = 0;
     while hash < run::n_hash(depth) {
@@ -132,7 +114,10 @@ pub fn count_map(depth: u8, number: usize, seed: u64) -> Map<u32> {
         hashes.extend(hash..(hash + run).min(run::n_hash(depth)));
         hash += run + random.below(60);
     }
-    let cells: Vec<(u64, u32)> = hashes.iter().map(|&h| (h, random.poisson(8.0))).collect();
+    let cells: Vec<(u64, u32)> = hashes
+        .iter()
+        .map(|&h| (h, poisson(&mut random, 8.0)))
+        .collect();
     let mut entries = run::build_counts(depth, 0, 5.0, cells.into_iter());
     entries.truncate(number);
     Map::of(depth, &entries)

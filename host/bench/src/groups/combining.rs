@@ -1,7 +1,8 @@
 //! Pooling and multiplying. The original takes its two maps for its own: they are copied for it
 //! outside the time. Ours walks the overlay of lent maps into lent buffers, which hold what the
-//! round before left there.
+//! round before left there and have just as many places as there are cells before merging.
 
+use mom::Refusal;
 use oracle::run;
 
 use super::Plan;
@@ -12,21 +13,16 @@ use crate::{
 
 const CHI2: f64 = 7.815;
 
+const FACTOR: f64 = 1e-6;
+
 pub fn run(plan: Plan) {
     let depth = 10 - plan.shallower;
     let number = 1_000_000 >> (2 * plan.shallower);
     let (left, right) = (count_map(depth, number, 1), count_map(depth, number, 2));
     let shallow = count_map(depth - 5, number, 3);
     heading_with_extra("Combining", "entry", "entries");
-    for (name, chi2_threshold) in [("7.815", CHI2), ("-1", -1.0)] {
-        pool(
-            plan,
-            &format!("pool, T {name}"),
-            &left,
-            &right,
-            chi2_threshold,
-        );
-    }
+    pool(plan, "pool, T 7.815", &left, &right, CHI2);
+    pool(plan, "pool, T -1", &left, &right, -1.0);
     pool(
         plan,
         "pool, shallow with deep, T 7.815",
@@ -35,15 +31,8 @@ pub fn run(plan: Plan) {
         CHI2,
     );
     let [left, right, shallow] = [left, right, shallow].map(|map| density_map(&map));
-    for (name, chi2_threshold) in [("7.815", CHI2), ("-1", -1.0)] {
-        product(
-            plan,
-            &format!("product, T {name}"),
-            &left,
-            &right,
-            chi2_threshold,
-        );
-    }
+    product(plan, "product, T 7.815", &left, &right, CHI2);
+    product(plan, "product, T -1", &left, &right, -1.0);
     product(
         plan,
         "product, shallow with deep, T 7.815",
@@ -53,105 +42,74 @@ pub fn run(plan: Plan) {
     );
 }
 
-/// More places than the overlay of the two has cells.
-fn places<V: Copy>(left: &Map<V>, right: &Map<V>) -> usize {
-    (4 * (left.len() + right.len())).min(12 << (2 * left.depth.max(right.depth)))
-}
-
 fn pool(plan: Plan, work: &str, left: &Map<u32>, right: &Map<u32>, chi2_threshold: f64) {
-    let places = places(left, right);
-    let (mut zuniqs, mut counts) = (vec![0; places], vec![0; places]);
-    // The call is lent just the places that it needs: that many it clears or fills.
-    let needed = needed(places, |n| {
-        mom::pool(
-            left.lent(),
-            right.lent(),
-            0,
-            -1.0,
-            &mut zuniqs[..n],
-            &mut counts[..n],
-        )
-        .is_ok()
-    });
-    let mut ours = || {
-        let (z, c) = (&mut zuniqs[..needed], &mut counts[..needed]);
-        mom::pool(left.lent(), right.lent(), 0, chi2_threshold, z, c)
-            .unwrap()
-            .entries
+    let ours = |left: &Map<u32>, right: &Map<u32>, zuniqs: &mut [u64], counts: &mut [u32]| {
+        mom::pool(left.lent(), right.lent(), 0, chi2_threshold, zuniqs, counts)
+            .map(|pooled| pooled.entries)
     };
-    let entries = ours();
-    let original = || {
-        let (l, r) = (
-            run::mom(left.depth, left.entries()),
-            run::mom(right.depth, right.entries()),
-        );
-        timed(|| run::pool(l, r, 0, chi2_threshold))
+    let original = |left: Vec<(u64, u32)>, right: Vec<(u64, u32)>, depths: (u8, u8)| {
+        let (left, right) = (run::mom(depths.0, left), run::mom(depths.1, right));
+        run::pool(left, right, 0, chi2_threshold).1
     };
-    let times = contest(plan.rounds, || timed(&mut ours), original);
-    let (l, r) = (
-        run::mom(left.depth, left.entries()),
-        run::mom(right.depth, right.entries()),
-    );
-    let held = zuniqs.iter().copied().zip(counts.iter().copied());
-    assert!(
-        held.take(entries).eq(run::pool(l, r, 0, chi2_threshold).1),
-        "{work}: answers differ"
-    );
-    let checks = alone(plan.rounds, || {
-        let (z, c) = (&mut zuniqs[..needed - 1], &mut counts[..needed - 1]);
-        timed(|| mom::pool(left.lent(), right.lent(), 0, chi2_threshold, z, c).unwrap_err())
-    });
-    let empty = Map::of(0, &[]);
-    let clearing = alone(plan.rounds, || {
-        let (z, c) = (&mut zuniqs[entries..needed], &mut counts[entries..needed]);
-        timed(|| mom::pool(empty.lent(), empty.lent(), 0, chi2_threshold, z, c).unwrap())
-    });
-    let work = format!("{work}: {needed} cells");
-    row_with_extra(
-        &work,
-        left.len() + right.len(),
-        times,
-        Extra { checks, clearing },
-    );
+    combine(plan, work, left, right, ours, original);
 }
 
 fn product(plan: Plan, work: &str, left: &Map<f64>, right: &Map<f64>, chi2_threshold: f64) {
-    let places = places(left, right);
-    let (mut zuniqs, mut values) = (vec![0; places], vec![0.0; places]);
-    let needed = needed(places, |n| {
-        let (z, v) = (&mut zuniqs[..n], &mut values[..n]);
-        mom::product(left.lent(), right.lent(), 0, -1.0, 1e-6, z, v).is_ok()
+    let ours = |left: &Map<f64>, right: &Map<f64>, zuniqs: &mut [u64], values: &mut [f64]| {
+        mom::product(
+            left.lent(),
+            right.lent(),
+            0,
+            chi2_threshold,
+            FACTOR,
+            zuniqs,
+            values,
+        )
+    };
+    let original = |left: Vec<(u64, f64)>, right: Vec<(u64, f64)>, depths: (u8, u8)| {
+        let (left, right) = (run::mom(depths.0, left), run::mom(depths.1, right));
+        run::product(left, right, FACTOR, 0, chi2_threshold).1
+    };
+    combine(plan, work, left, right, ours, original);
+}
+
+/// Times combining two maps, by `ours` into two buffers.
+fn combine<V: Copy + Default + PartialEq>(
+    plan: Plan,
+    work: &str,
+    left: &Map<V>,
+    right: &Map<V>,
+    ours: impl Fn(&Map<V>, &Map<V>, &mut [u64], &mut [V]) -> Result<usize, Refusal>,
+    original: impl Fn(Vec<(u64, V)>, Vec<(u64, V)>, (u8, u8)) -> Vec<(u64, V)>,
+) {
+    // More places than the overlay of the two has cells.
+    let most = (4 * (left.len() + right.len())).min(12 << (2 * left.depth.max(right.depth)));
+    let (mut zuniqs, mut values) = (vec![0; most], vec![V::default(); most]);
+    let needed = least_accepted(most, |n| {
+        ours(left, right, &mut zuniqs[..n], &mut values[..n]).is_ok()
     });
-    let mut ours = || {
-        let (z, v) = (&mut zuniqs[..needed], &mut values[..needed]);
-        mom::product(left.lent(), right.lent(), 0, chi2_threshold, 1e-6, z, v).unwrap()
-    };
-    let entries = ours();
-    let original = || {
-        let (l, r) = (
-            run::mom(left.depth, left.entries()),
-            run::mom(right.depth, right.entries()),
-        );
-        timed(|| run::product(l, r, 1e-6, 0, chi2_threshold))
-    };
-    let times = contest(plan.rounds, || timed(&mut ours), original);
-    let (l, r) = (
-        run::mom(left.depth, left.entries()),
-        run::mom(right.depth, right.entries()),
+    let (zuniqs, values) = (&mut zuniqs[..needed], &mut values[..needed]);
+    let depths = (left.depth, right.depth);
+    let times = contest(
+        plan.rounds,
+        || timed(|| ours(left, right, zuniqs, values)),
+        || {
+            let (left, right) = (left.entries(), right.entries());
+            timed(|| original(left, right, depths))
+        },
     );
+    let entries = ours(left, right, zuniqs, values).unwrap();
     let held = zuniqs.iter().copied().zip(values.iter().copied());
-    let expected = run::product(l, r, 1e-6, 0, chi2_threshold).1;
+    let expected = original(left.entries(), right.entries(), depths);
     assert!(held.take(entries).eq(expected), "{work}: answers differ");
     let checks = alone(plan.rounds, || {
         let (z, v) = (&mut zuniqs[..needed - 1], &mut values[..needed - 1]);
-        timed(|| {
-            mom::product(left.lent(), right.lent(), 0, chi2_threshold, 1e-6, z, v).unwrap_err()
-        })
+        timed(|| ours(left, right, z, v).unwrap_err())
     });
     let empty = Map::of(0, &[]);
     let clearing = alone(plan.rounds, || {
-        let (z, v) = (&mut zuniqs[entries..needed], &mut values[entries..needed]);
-        timed(|| mom::product(empty.lent(), empty.lent(), 0, chi2_threshold, 1e-6, z, v).unwrap())
+        let (z, v) = (&mut zuniqs[entries..], &mut values[entries..]);
+        timed(|| ours(&empty, &empty, z, v).unwrap())
     });
     let work = format!("{work}: {needed} cells");
     row_with_extra(
@@ -163,9 +121,9 @@ fn product(plan: Plan, work: &str, left: &Map<f64>, right: &Map<f64>, chi2_thres
 }
 
 /// The least number of places that a call accepts, found by halving.
-fn needed(places: usize, mut accepts: impl FnMut(usize) -> bool) -> usize {
-    assert!(accepts(places));
-    let (mut refused, mut accepted) = (0, places);
+fn least_accepted(most: usize, mut accepts: impl FnMut(usize) -> bool) -> usize {
+    assert!(accepts(most));
+    let (mut refused, mut accepted) = (0, most);
     while accepted - refused > 1 {
         let middle = refused + (accepted - refused) / 2;
         if accepts(middle) {

@@ -14,7 +14,7 @@ pub fn run(plan: Plan) {
         let number = number >> (2 * plan.shallower);
         let cells = first_cells(10 - plan.shallower, number);
         let (mut zuniqs, mut counts) = (vec![0; number], vec![0; number]);
-        let ours = || {
+        let mut ours = || {
             let (hashes, batch) = (&cells.hashes, &cells.values);
             let (z, c) = (&mut zuniqs, &mut counts);
             mom::add_counts(cells.depth, 0, 7.815, 0, z, c, hashes, batch).unwrap()
@@ -22,7 +22,6 @@ pub fn run(plan: Plan) {
         let original = || run::build_counts(cells.depth, 0, 7.815, cells.pairs());
         // Small works are repeated more often.
         let rounds = Rounds(plan.rounds.0 * (10_000_000 / number).clamp(1, 20));
-        let mut ours = ours;
         let times = contest(rounds, || timed(&mut ours), || timed(original));
         row("add counts, T 7.815", number, times);
     }

@@ -1,10 +1,11 @@
 //! The map check and the lookups, a million questions to a map of a million entries.
 
+use differential::random::Random;
 use oracle::run;
 
 use super::Plan;
 use crate::{
-    inputs::{count_map, Map, Random},
+    inputs::{count_map, Map},
     measure::{alone, contest, heading, row, row_alone, timed},
 };
 
@@ -15,7 +16,7 @@ pub fn run(plan: Plan) {
     heading("Map check", "entry", "entries");
     check(plan, depth, number, &map);
     heading("Lookup", "query", "queries");
-    let mut random = Random(4);
+    let mut random = Random::new(4);
     let mut cells: Vec<u64> = (0..number)
         .map(|_| random.below(run::n_hash(depth)))
         .collect();
@@ -28,7 +29,7 @@ pub fn run(plan: Plan) {
         ("large", depth - 6),
     ] {
         let n_hash = run::n_hash(query_depth);
-        // The original reads before its map where the search ends at place 0.
+        // The original fails where the search ends at place 0.
         let mut cells: Vec<u64> = (0..number)
             .map(|_| n_hash / 12 + random.below(n_hash / 2))
             .collect();
@@ -47,7 +48,7 @@ pub fn run(plan: Plan) {
 
 /// The original takes every entry above the map's depth for a fault: it gets a map without any.
 fn check(plan: Plan, depth: u8, number: usize, mixed: &Map<u32>) {
-    let mut random = Random(5);
+    let mut random = Random::new(5);
     let entries: Vec<(u64, u32)> = (0..run::n_hash(depth))
         .filter(|_| random.below(2) == 0)
         .take(number)

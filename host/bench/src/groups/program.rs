@@ -7,9 +7,11 @@ use std::{
     process::{Command, Stdio},
 };
 
+use differential::random::Random;
+
 use super::Plan;
 use crate::{
-    inputs::Random,
+    inputs::poisson,
     measure::{contest, heading, row, timed, Rounds},
 };
 
@@ -28,10 +30,10 @@ pub fn run(plan: Plan) {
         println!("mombuild is not built: `rt check mombuild` makes it");
         return;
     }
-    let mut random = Random(6);
+    let mut random = Random::new(6);
     let mut text = String::from("9,0,7815\n");
     for hash in 0..LINES {
-        text += &format!("{hash},{}\n", random.poisson(8.0));
+        text += &format!("{hash},{}\n", poisson(&mut random, 8.0));
     }
     assert_eq!(
         output(&ours, &text),

@@ -1,6 +1,14 @@
 //! Rows of bytes, a million of each kind. Both sides read into lent buffers and write into lent
-//! bytes. The original has its map in one vector of pairs, ours in two buffers.
+//! bytes. The original has its map in one vector of pairs, ours in two buffers, and its densities as
+//! their patterns.
 
+use mom::{
+    rows::{
+        read_count_rows, read_density_rows, write_count_rows, write_density_rows, COUNT_ROW,
+        DENSITY_ROW,
+    },
+    Refusal,
+};
 use oracle::run;
 
 use super::Plan;
@@ -11,57 +19,78 @@ use crate::{
 
 pub fn run(plan: Plan) {
     let counts = count_map(10 - plan.shallower, 1_000_000 >> (2 * plan.shallower), 1);
+    let densities = density_map(&counts);
+    let patterns = Map {
+        depth: densities.depth,
+        zuniqs: densities.zuniqs.clone(),
+        values: densities
+            .values
+            .iter()
+            .map(|density| density.to_bits())
+            .collect(),
+    };
+    let (count_mom, density_mom) = (
+        run::mom(counts.depth, counts.entries()),
+        run::mom(densities.depth, densities.entries()),
+    );
     heading("Rows", "row", "rows");
-    count_rows(plan, &counts);
-    density_rows(plan, &density_map(&counts));
+    rows(
+        plan,
+        "count rows",
+        COUNT_ROW,
+        &counts,
+        (write_count_rows, read_count_rows),
+        |bytes| run::write_rows_into(&count_mom, bytes),
+        |bytes, zuniqs, counts| run::read_rows_into(bytes, zuniqs, counts),
+        |count: u32| count,
+    );
+    rows(
+        plan,
+        "density rows",
+        DENSITY_ROW,
+        &patterns,
+        (write_density_rows, read_density_rows),
+        |bytes| run::write_rows_into(&density_mom, bytes),
+        |bytes, zuniqs, densities| run::read_rows_into(bytes, zuniqs, densities),
+        f64::to_bits,
+    );
 }
 
-fn count_rows(plan: Plan, map: &Map<u32>) {
+type Write<V> = fn(&[u64], &[V], &mut [u8]) -> Result<usize, Refusal>;
+type Read<V> = fn(&[u8], &mut [u64], &mut [V]) -> Result<usize, Refusal>;
+
+/// Times writing and reading one kind of rows. `as_ours` is a value of the original as ours has it.
+#[allow(clippy::too_many_arguments)]
+fn rows<V: Copy + Default + PartialEq, W: Copy + Default>(
+    plan: Plan,
+    kind: &str,
+    row_size: usize,
+    map: &Map<V>,
+    (write, read): (Write<V>, Read<V>),
+    original_write: impl Fn(&mut [u8]) -> usize,
+    original_read: impl Fn(&[u8], &mut [u64], &mut [W]),
+    as_ours: impl Fn(W) -> V,
+) {
     let n = map.len();
-    let original = run::mom(map.depth, map.entries());
-    let (mut bytes, mut theirs) = (vec![0; 12 * n], vec![0; 12 * n]);
+    let (mut bytes, mut theirs) = (vec![0; row_size * n], vec![0; row_size * n]);
     let times = contest(
         plan.rounds,
-        || timed(|| mom::rows::write_count_rows(&map.zuniqs, &map.values, &mut bytes).unwrap()),
-        || timed(|| run::write_rows_into(&original, &mut theirs)),
+        || timed(|| write(&map.zuniqs, &map.values, &mut bytes).unwrap()),
+        || timed(|| original_write(&mut theirs)),
     );
-    assert!(bytes == theirs, "count rows: bytes differ");
-    row("write count rows", n, times);
-    let (mut zuniqs, mut counts) = (vec![0; n], vec![0; n]);
-    let (mut their_zuniqs, mut their_counts) = (vec![0; n], vec![0; n]);
+    assert!(bytes == theirs, "{kind}: bytes differ");
+    row(&format!("write {kind}"), n, times);
+    let (mut zuniqs, mut values) = (vec![0; n], vec![V::default(); n]);
+    let (mut their_zuniqs, mut their_values) = (vec![0; n], vec![W::default(); n]);
     let times = contest(
         plan.rounds,
-        || timed(|| mom::rows::read_count_rows(&bytes, &mut zuniqs, &mut counts).unwrap()),
-        || timed(|| run::read_rows_into(&bytes, &mut their_zuniqs, &mut their_counts)),
+        || timed(|| read(&bytes, &mut zuniqs, &mut values).unwrap()),
+        || timed(|| original_read(&bytes, &mut their_zuniqs, &mut their_values)),
     );
+    let their_values: Vec<V> = their_values.into_iter().map(as_ours).collect();
     assert!(
-        (zuniqs, counts) == (their_zuniqs, their_counts),
-        "count rows: rows differ"
+        zuniqs == their_zuniqs && values == their_values,
+        "{kind}: rows differ"
     );
-    row("read count rows", n, times);
-}
-
-/// Ours has densities as their patterns.
-fn density_rows(plan: Plan, map: &Map<f64>) {
-    let n = map.len();
-    let original = run::mom(map.depth, map.entries());
-    let patterns: Vec<u64> = map.values.iter().map(|density| density.to_bits()).collect();
-    let (mut bytes, mut theirs) = (vec![0; 16 * n], vec![0; 16 * n]);
-    let times = contest(
-        plan.rounds,
-        || timed(|| mom::rows::write_density_rows(&map.zuniqs, &patterns, &mut bytes).unwrap()),
-        || timed(|| run::write_rows_into(&original, &mut theirs)),
-    );
-    assert!(bytes == theirs, "density rows: bytes differ");
-    row("write density rows", n, times);
-    let (mut zuniqs, mut patterns) = (vec![0; n], vec![0; n]);
-    let (mut their_zuniqs, mut densities) = (vec![0; n], vec![0.0f64; n]);
-    let times = contest(
-        plan.rounds,
-        || timed(|| mom::rows::read_density_rows(&bytes, &mut zuniqs, &mut patterns).unwrap()),
-        || timed(|| run::read_rows_into(&bytes, &mut their_zuniqs, &mut densities)),
-    );
-    let their_patterns = densities.iter().map(|density| density.to_bits());
-    assert!(zuniqs == their_zuniqs && patterns.into_iter().eq(their_patterns));
-    row("read density rows", n, times);
+    row(&format!("read {kind}"), n, times);
 }
