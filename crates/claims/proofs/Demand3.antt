@@ -17,10 +17,11 @@ use Rattle.merger.specs.Merge.{acceptCounts}
 use Rattle.merger.proofs.Accept.{accepted-count-is-sum}
 use Rattle.build.specs.Map.{Entry}
 use Rattle.build.specs.Add.{mapRefusal}
-use Rattle.build.specs.Buffers.{zuniqOf, valueOf, laid, zuniqBuffer, valueBuffer}
+use Rattle.build.specs.Stack.{run}
+use Rattle.build.specs.Buffers.{zuniqOf, valueOf, laid, zuniqBuffer, valueBuffer, held}
 use Rattle.build.specs.Promises.{Any, Has, Rises, Covers, Sums}
-use Rattle.build.specs.Calls.{Buffers, Batch, Answer, Calls, joinedMap, judge, joinBy, joinCalls, left}
-use Rattle.build.specs.Counts.{totalOf, Report, countCalls}
+use Rattle.build.specs.Calls.{Buffers, Batch, Answer, Calls, cells, holding, answered, addCall, addCalls, joinedMap, judge, joinBy, joinCalls, left}
+use Rattle.build.specs.Counts.{totalOf, Report, countsAdded, countCalls, addCounts}
 use Rattle.build.specs.declared.counts.CountsAdded.{CountsAdded}
 use Rattle.build.proofs.Entries.{total-reverse}
 use Rattle.build.proofs.Rising.{rises-has, rises-in-range}
@@ -36,21 +37,54 @@ use Rattle.combine.specs.Pool.{entries, mapsRefusal, poolRefusal, poolOver, poo
 use Rattle.combine.proofs.Kept.{pool-total}
 use Rattle.combine.proofs.Given.{entries-laid}
 use Rattle.combine.proofs.PoolCall.{pool-call-swapped}
-use Rattle.claims.specs.Demand3.{lastReport, nothingYet, AddCalls, first, done, due, joinedList, mapOf, Claim, given, poolOf, PoolClaim}
+use Rattle.claims.specs.Demand3.{lastReport, heldAfter, calls, AddCalls, first, done, due, joinedList, mapOf, Claim, given, poolOf, PoolClaim}
 
 pub mergers-sum : (M : ℕ) (T : Float) → Sums (acceptCounts M T) (λ n. n)
 mergers-sum M T d h k0 k1 k2 k3 x q = accepted-count-is-sum M T d h k0 k1 k2 k3 x q
 
+-- ---- the calls as their contract has them
+abbrev told : Buffers ℕ × List (Answer Refusal Report) → Buffers ℕ × List CountsAdded
+told t = (t .0, map countsAdded (t .1))
+
+-- A list of calls of `addCounts`, each handed what the one before left and answered, is one of `addCall`.
+module _ (D M : ℕ) (T : Float) where
+  abbrev counting : Calls ℕ Refusal Report
+  counting = countCalls D M T
+
+  calls-are : (b : Buffers ℕ) (cs : List (Batch ℕ)) → calls D M T b cs ≡ told (addCalls counting b cs)
+  unfolding calls addCalls addCounts addCall
+  calls-are b [] = refl
+  calls-are b (c ∷ cs) =
+      go (counting .refusal (b .number) (length (b .zuniqs)) (length (b .values)) (take (b .number) (b .zuniqs)) (take (b .number) (b .values)) c) (λ d. calls-are d cs)
+    where
+      made : List (Entry ℕ)
+      made = run (counting .accept) (held 29 (b .number) (b .zuniqs) (b .values)) (cells counting c)
+
+      -- the call, by its refusal, and the calls behind it
+      first-call : Option Refusal → Buffers ℕ × List CountsAdded
+      first-call o =
+          let r = answered counting o b made in
+          let more = calls D M T (record { number = heldAfter (b .number) (countsAdded (r .1)); zuniqs = r .0 .zuniqs; values = r .0 .values }) cs in
+          (more .0, countsAdded (r .1) ∷ more .1)
+
+      go : (o : Option Refusal) → ((d : Buffers ℕ) → calls D M T d cs ≡ told (addCalls counting d cs)) → first-call o ≡ (let r = answered counting o b made in let t = addCalls counting (r .0) cs in told (t .0, r .1 ∷ t .1))
+      go none more = rw (more (holding counting b made)) refl
+      go (some r) more = rw (more b) refl
+
 -- ---- what is reported
 -- The last report is that of the joined batches.
 report-is-due : (g : Calls ℕ Refusal Report) (zs vs : ℕ) (j : Option (List (Entry ℕ))) (cs : List (Batch ℕ))
-    → lastReport (g .report (joinedMap g j)) (joinCalls g zs vs j cs .1) ≡ g .report (joinedMap g (joinCalls g zs vs j cs .0))
+    → let x = g .report (joinedMap g j) in let y = g .report (joinedMap g (joinCalls g zs vs j cs .0)) in
+    lastReport (x .entries) (x .sum) (map countsAdded (joinCalls g zs vs j cs .1)) ≡ (y .entries, y .sum)
 unfolding joinCalls lastReport
 report-is-due g zs vs j [] = refl
 report-is-due g zs vs j (c ∷ cs) = go (judge g zs vs j c) (λ k. report-is-due g zs vs k cs)
   where
-    go : (o : Option Refusal) → ((k : Option (List (Entry ℕ))) → lastReport (g .report (joinedMap g k)) (joinCalls g zs vs k cs .1) ≡ g .report (joinedMap g (joinCalls g zs vs k cs .0)))
-        → lastReport (g .report (joinedMap g j)) (joinBy g o j c .1 ∷ joinCalls g zs vs (joinBy g o j c .0) cs .1) ≡ g .report (joinedMap g (joinCalls g zs vs (joinBy g o j c .0) cs .0))
+    Due : Option (List (Entry ℕ)) → List (Answer Refusal Report) → Option (List (Entry ℕ)) → Type 0
+    Due k l m = let x = g .report (joinedMap g k) in let y = g .report (joinedMap g m) in lastReport (x .entries) (x .sum) (map countsAdded l) ≡ (y .entries, y .sum)
+
+    go : (o : Option Refusal) → ((k : Option (List (Entry ℕ))) → Due k (joinCalls g zs vs k cs .1) (joinCalls g zs vs k cs .0))
+        → Due j (joinBy g o j c .1 ∷ joinCalls g zs vs (joinBy g o j c .0) cs .1) (joinCalls g zs vs (joinBy g o j c .0) cs .0)
     go none more = more _
     go (some r) more = more j
 
@@ -69,32 +103,34 @@ module _ (a : AddCalls) where
   g = countCalls (a .D) (a .M) (a .T)
 
   abbrev rising : Rises (a .D) 0 (nHash (a .D)) (joinedList a)
-  rising = joined-batches-rise g (count-calls-sound (a .D) (a .M) (a .T)) (first a) (a .calls)
+  rising = joined-batches-rise g (count-calls-sound (a .D) (a .M) (a .T)) (first a) (a .batches)
 
   abbrev in-sky : Rises 29 0 (nHash 29) (mapOf a)
-  in-sky = joined-map-rises g (count-calls-sound (a .D) (a .M) (a .T)) (first a) (a .calls)
+  in-sky = joined-map-rises g (count-calls-sound (a .D) (a .M) (a .T)) (first a) (a .batches)
 
   pub as-due : done a ≡ (left g (first a) (due a .0), due a .1)
-  as-due = calls-do-as-joined g (count-calls-sound (a .D) (a .M) (a .T)) (first a) (a .calls)
+  as-due =
+      let joined = calls-do-as-joined g (count-calls-sound (a .D) (a .M) (a .T)) (first a) (a .batches) in
+      calls-are (a .D) (a .M) (a .T) (first a) (a .batches) ∙ ap told joined
 
-  report-is : lastReport nothingYet (done a .1) ≡ record { entries = length (mapOf a); sum = totalOf (mapOf a) }
+  report-is : lastReport 0 0 (done a .1) ≡ (length (mapOf a), totalOf (mapOf a))
   report-is =
       let m = mapOf a in
       let start : joinedMap g none ≡ [] = ap reverse (defined-map-nil (acceptCounts (a .M) (a .T)) (a .D)) in
-      let due-is = report-is-due g (length (a .zuniqs)) (length (a .counts)) none (a .calls) in
-      let last : lastReport nothingYet (due a .1) ≡ g .report (reverse m) = rw start at due-is in
-      ap (λ (t : Buffers ℕ × List (Answer Refusal Report)). lastReport nothingYet (t .1)) as-due ∙ last ∙ (λ i. record { entries = length-reverse m i; sum = total-reverse (λ n. n) m i })
+      let due-is = report-is-due g (length (a .zuniqs)) (length (a .counts)) none (a .batches) in
+      let last : lastReport 0 0 (due a .1) ≡ (length (reverse m), totalOf (reverse m)) = rw start at due-is in
+      ap (λ (t : Buffers ℕ × List CountsAdded). lastReport 0 0 (t .1)) as-due ∙ last ∙ (λ i. (length-reverse m i, total-reverse (λ n. n) m i))
 
   pub add-calls-claim : Claim a
   add-calls-claim =
       let accept = acceptCounts (a .M) (a .T) in
       record {
-        calls = as-due;
+        as-due = as-due;
         valid = rising-is-valid 29 (a .D) (mapOf a) (λ e m. rises-has (a .D) 0 (nHash (a .D)) (mapOf a) e (defined-map-rises accept (a .D) (joinedList a)) m .0) in-sky;
         rises = rises-iff-ascends 29 (mapOf a) .0 in-sky;
         covers = λ h.
             let c = defined-map-covers accept (a .D) (joinedList a) rising (a .D) h (omega arith) in
-            let k = covers-iff-listed (a .D) h (joinedList a) (joined-batches-depth g (length (a .zuniqs)) (length (a .counts)) (a .calls)) in
+            let k = covers-iff-listed (a .D) h (joinedList a) (joined-batches-depth g (length (a .zuniqs)) (length (a .counts)) (a .batches)) in
             (λ m. k .0 (c .0 m), λ m. c .1 (k .1 m));
         sums = defined-map-counts accept (a .D) (joinedList a) rising (λ n. n) (mergers-sum (a .M) (a .T));
         settled = no-acceptable-quad-left accept (a .D) (joinedList a) rising;
@@ -105,10 +141,10 @@ module _ (a : AddCalls) where
   given-stands : (given a .zuniqs ≡ map (zuniqOf 29) (mapOf a)) × (given a .values ≡ map valueOf (mapOf a))
   unfolding laid
   given-stands =
-      let w = joined-map-stands g (count-calls-sound (a .D) (a .M) (a .T)) (first a) (a .calls) in
+      let w = joined-map-stands g (count-calls-sound (a .D) (a .M) (a .T)) (first a) (a .batches) in
       let m = reverse-reverse (mapOf a) in (
-        ap (λ (t : Buffers ℕ × List (Answer Refusal Report)). take (t .0 .number) (t .0 .zuniqs)) as-due ∙ w .0 ∙ ap (map (zuniqOf 29)) m,
-        ap (λ (t : Buffers ℕ × List (Answer Refusal Report)). take (t .0 .number) (t .0 .values)) as-due ∙ w .1 ∙ ap (map valueOf) m,
+        ap (λ (t : Buffers ℕ × List CountsAdded). take (t .0 .number) (t .0 .zuniqs)) as-due ∙ w .0 ∙ ap (map (zuniqOf 29)) m,
+        ap (λ (t : Buffers ℕ × List CountsAdded). take (t .0 .number) (t .0 .values)) as-due ∙ w .1 ∙ ap (map valueOf) m,
       )
 
   pub given-entries : entries (given a) ≡ mapOf a

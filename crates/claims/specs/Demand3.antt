@@ -1,5 +1,5 @@
 -- Demand 3 of the scope: what is claimed of every list of count add calls with one D, M and T, and of pooling two maps so made.
--- Said over the definitions that the contracts of the calls use: `addCall` is what `add_counts` does, `poolCounts` what `pool` does.
+-- Said over the definitions that the contracts of the calls cite: `addCounts` is what `add_counts` does, `poolCounts` what `pool` does.
 use mathlib.Core.Path.{_≡_}
 use mathlib.Core.List.{List, [], _∷_, map, reverse}
 use mathlib.Core.Logic.{_↔_}
@@ -14,29 +14,40 @@ use Rattle.build.specs.Map.{Entry, definedMap}
 use Rattle.build.specs.Stack.{child}
 use Rattle.build.specs.Buffers.{zuniqOf, zuniqBuffer, valueBuffer}
 use Rattle.build.specs.Promises.{Any, Has, Covers, Ascends, totalUnder}
-use Rattle.build.specs.Calls.{Buffers, Batch, Answer, addCalls, joinedCells, joinCalls, left}
-use Rattle.build.specs.Counts.{totalOf, Report, countCalls}
+use Rattle.build.specs.Calls.{Buffers, Batch, joinedCells, joinCalls, left}
+use Rattle.build.specs.Counts.{totalOf, countsAdded, countCalls, addCounts}
 use Rattle.build.specs.declared.counts.CountsAdded.{CountsAdded}
 use Rattle.combine.specs.Rules.{definedPool}
 use Rattle.combine.specs.Pool.{Given, mapsRefusal, poolRefusal, poolCounts}
 
--- "the total last reported (0 before any)", with the number of entries
-unfoldable pub lastReport : Report → List (Answer Refusal Report) → Report
-lastReport x [] = x
-lastReport x (Answer.refused r ∷ l) = lastReport x l
-lastReport x (Answer.accepted y ∷ l) = lastReport y l
+-- the number of entries that the last accepted call answered, and "the total last reported (0 before any)": with m and n of those before
+unfoldable pub lastReport : ℕ → ℕ → List CountsAdded → ℕ × ℕ
+lastReport m n [] = (m, n)
+lastReport m n (CountsAdded.Refused r ∷ l) = lastReport m n l
+lastReport m n (CountsAdded.Added entries total ∷ l) = lastReport entries total l
 
-abbrev pub nothingYet : Report
-nothingYet = record { entries = 0; sum = 0 }
+-- "m as the last accepted call answered it": the held number after a call that was handed m
+abbrev pub heldAfter : ℕ → CountsAdded → ℕ
+heldAfter m (CountsAdded.Refused r) = m
+heldAfter m (CountsAdded.Added entries total) = entries
 
--- "a list of count add calls with one D, M and T": the calls cs, and the first content of the two buffers
+-- the calls, one after the other: "Each later one gets the buffers as the last call left them and m as the last accepted call
+-- answered it"; what they leave, and every answer
+unfoldable pub calls : ℕ → ℕ → Float → Buffers ℕ → List (Batch ℕ) → Buffers ℕ × List CountsAdded
+calls D M T b [] = (b, [])
+calls D M T b (c ∷ cs) =
+    let r = addCounts D M T (b .number) (b .zuniqs) (b .values) (c .hashes) (c .values) in
+    let more = calls D M T (record { number = heldAfter (b .number) (r .0); zuniqs = r .1; values = r .2 }) cs in
+    (more .0, r .0 ∷ more .1)
+
+-- "a list of count add calls with one D, M and T": the batch of each, and the first content of the two buffers
 pub record AddCalls : Type 0 where
   pub D : ℕ
   pub M : ℕ
   pub T : Float
   pub zuniqs : List ℕ
   pub counts : List ℕ
-  pub calls : List (Batch ℕ)
+  pub batches : List (Batch ℕ)
 
 module _ (a : AddCalls) where
   -- "The first gets m = 0 and buffers with any content."
@@ -44,12 +55,12 @@ module _ (a : AddCalls) where
   first = record { number = 0; zuniqs = a .zuniqs; values = a .counts }
 
   -- what the calls leave in the buffers, with m, and what they answer
-  abbrev pub done : Buffers ℕ × List (Answer Refusal Report)
-  done = addCalls (countCalls (a .D) (a .M) (a .T)) first (a .calls)
+  abbrev pub done : Buffers ℕ × List CountsAdded
+  done = calls (a .D) (a .M) (a .T) first (a .batches)
 
   -- "The joined batches [..] are made from the calls' arguments alone", and with them what each call should answer
-  abbrev pub due : Option (List (Entry ℕ)) × List (Answer Refusal Report)
-  due = joinCalls (countCalls (a .D) (a .M) (a .T)) (length (a .zuniqs)) (length (a .counts)) none (a .calls)
+  abbrev pub due : Option (List (Entry ℕ)) × List CountsAdded
+  due = let t = joinCalls (countCalls (a .D) (a .M) (a .T)) (length (a .zuniqs)) (length (a .counts)) none (a .batches) in (t .0, map countsAdded (t .1))
 
   abbrev pub joinedList : List (Entry ℕ)
   joinedList = joinedCells (countCalls (a .D) (a .M) (a .T)) (due .0)
@@ -62,7 +73,7 @@ module _ (a : AddCalls) where
     -- "A call is refused exactly when, and as, the refusals below say with the defined map of the joined batches as held map"; "After
     -- the list m is the number of entries, and the buffers hold the defined map with 0 in every place after it or, with no call
     -- accepted, their first content": every answer, m, and both buffers whole
-    pub calls : done ≡ (left (countCalls (a .D) (a .M) (a .T)) first (due .0), due .1)
+    pub as-due : done ≡ (left (countCalls (a .D) (a .M) (a .T)) first (due .0), due .1)
     -- the entries are a valid map: they rise and none overlap
     pub valid : ValidMap 29 (a .D) (map (zuniqOf 29) mapOf)
     pub rises : Ascends 29 mapOf
@@ -74,7 +85,7 @@ module _ (a : AddCalls) where
     pub settled : (d h v0 v1 v2 v3 : ℕ) → Has mapOf (child d h 0 v0) → Has mapOf (child d h 1 v1) → Has mapOf (child d h 2 v2) → Has mapOf (child d h 3 v3)
         → acceptCounts (a .M) (a .T) d h v0 v1 v2 v3 ≡ none
     -- what was last reported is so: the number of entries, and the sum over all of them
-    pub reported : lastReport nothingYet (done .1) ≡ record { entries = length mapOf; sum = totalOf mapOf }
+    pub reported : lastReport 0 0 (done .1) ≡ (length mapOf, totalOf mapOf)
 
 -- ---- pooling two maps so made
 -- the map that the calls left: "each goes in with its own D"
