@@ -1,5 +1,5 @@
 -- The checks of an add call, turn by turn. Assumes nothing.
-use mathlib.Core.Path.{_≡_, refl, ap, _∙_}
+use mathlib.Core.Path.{_≡_, refl, ap, sym, _∙_}
 use mathlib.Core.Bool.{Bool, true, false, _||_, not, true≢false}
 use mathlib.Core.List.{List, [], _∷_}
 use mathlib.Core.Logic.{⊎-elim}
@@ -20,8 +20,9 @@ use Rattle.mom.specs.declared.FirstFault.{FirstFault}
 use Rattle.mom.proofs.Faults.{no-fault-iff-valid}
 use Rattle.build.specs.Map.{orElse}
 use Rattle.build.specs.declared.Check.{Check}
+use Rattle.build.specs.declared.HeldMap.{HeldMap}
 use Rattle.build.specs.declared.counts.Total.{Total}
-use Rattle.build.specs.Add.{refusedIf, checkOf, settingsRefusal, lengthsRefusal, mapRefusal, cellRefusal, cellsRefusal, hashesRefusal, sumOf, cappedSum, sumRefusal, totalRefusal, spaceRefusal}
+use Rattle.build.specs.Add.{refusedIf, checkOf, settingsRefusal, lengthsRefusal, mapRefusal, heldOr, cellRefusal, cellsRefusal, hashesRefusal, sumOf, cappedSum, sumRefusal, totalRefusal, spaceRefusal}
 use Rattle.build.specs.Standing.{Rising}
 use Rattle.build.specs.Counts.{totalOr, never}
 
@@ -33,6 +34,28 @@ check-passed (some r) e = let z : _≡_ {A = ℕ} 0 1 = cc in absurd (omega arit
 pub check-refused : (o : Option Refusal) (r : Refusal) → Check.Refused r ≡ checkOf o → o ≡ some r
 check-refused none r e = let z : _≡_ {A = ℕ} 0 1 = cc in absurd (omega arith)
 check-refused (some s) r e = cc
+
+-- A check that passes leaves it to the later ones,
+pub passes : {x : Check} (o p : Option Refusal) → x ≡ checkOf o → x ≡ Check.Passed → orElse o p ≡ p
+passes o p e q = rw (check-passed o (sym q ∙ e)) refl
+
+-- and one that refuses settles it.
+pub refuses : {x : Check} {q : Refusal} (o p : Option Refusal) → x ≡ checkOf o → x ≡ Check.Refused q → orElse o p ≡ some q
+refuses {q = q} o p e k = rw (check-refused o q (sym k ∙ e)) refl
+
+-- Refusals in order may be tried in groups.
+pub or-else-assoc : (a b c : Option Refusal) → orElse (orElse a b) c ≡ orElse a (orElse b c)
+or-else-assoc none b c = refl
+or-else-assoc (some r) b c = refl
+
+-- What the check of the held map answers tells what it found.
+pub held-passed : (o : Option Refusal) (n e : ℕ) → heldOr o n ≡ HeldMap.EndsAt e → (o ≡ none) × (n ≡ e)
+held-passed none n e q = (refl, cc)
+held-passed (some r) n e q = let z : _≡_ {A = ℕ} 0 1 = cc in absurd (omega arith)
+
+pub held-refused : (o : Option Refusal) (n : ℕ) (r : Refusal) → heldOr o n ≡ HeldMap.Refused r → o ≡ some r
+held-refused none n r q = let z : _≡_ {A = ℕ} 0 1 = cc in absurd (omega arith)
+held-refused (some s) n r q = cc
 
 -- A cell that passes is one of its depth, and is not below what it must be above.
 pub cell-passes : (cells least h i : ℕ) → cellRefusal cells least h i ≡ none → (h < cells) × (least ≤ h)

@@ -109,3 +109,8 @@ pub put-front : {B : Type 0} (n : ℕ) (l ys : List B) (x : B) → n < length l 
 put-front n l ys x p e =
     let z : n + 0 ≡ n = omega arith in
     ap (putMid n (length l - n) l) e ∙ set-mid-at n (length l - n) 0 l x (omega (arith, mid-len n (length l) l (omega arith))) ∙ ap (λ (i : ℕ). set l i x) z
+
+-- Where there is no place nothing is put.
+pub put-nowhere : {B : Type 0} (l : List B) (x : B) → length l ≤ 0 → l ≡ set l 0 x
+put-nowhere [] x e = refl
+put-nowhere (y ∷ l) x e = absurd (omega arith)

@@ -10,10 +10,12 @@ use lib.ListN.{length, take}
 use Rattle.zuniq.specs.Cells.{nHash, end}
 use Rattle.zuniq.specs.Codec.{decode}
 use Rattle.zuniq.specs.declared.Decoded.{Decoded}
+use Rattle.mom.specs.Map.{firstFault}
 use Rattle.mom.specs.declared.FirstFault.{FirstFault}
 use Rattle.refusal.specs.declared.Refusal.{Refusal}
 use Rattle.build.specs.Map.{orElse}
 use Rattle.build.specs.declared.Check.{Check}
+use Rattle.build.specs.declared.HeldMap.{HeldMap}
 
 abbrev pub refusedIf : Bool → Refusal → Option Refusal
 refusedIf true r = some r
@@ -79,6 +81,19 @@ cappedSum ns = min (sumOf ns) 4294967296
 unfoldable pub mapRefusal : FirstFault → Option Refusal
 mapRefusal FirstFault.Nothing = none
 mapRefusal (FirstFault.At place fault) = some (Refusal.InvalidMap place)
+
+-- rows 1 to 5, which both add calls have: m is the held number, `places` and `values` are the lengths of the buffers, zs the held
+-- zuniqs, `hashes` and `batch` the lengths of the batch's two lists
+unfoldable pub heldRefusal : ℕ → ℕ → Float → ℕ → ℕ → ℕ → List ℕ → ℕ → ℕ → Option Refusal
+heldRefusal D M T m places values zs hashes batch =
+    orElse (settingsRefusal D M T)
+    (orElse (lengthsRefusal m places values hashes batch)
+    (mapRefusal (firstFault 29 D zs)))
+
+-- where the held map ends, or why it is refused
+abbrev pub heldOr : Option Refusal → ℕ → HeldMap
+heldOr none end = HeldMap.EndsAt end
+heldOr (some r) end = HeldMap.Refused r
 
 -- where a cell ends, as a hash of depth D
 unfoldable pub cellEnd : ℕ → Decoded → ℕ

@@ -9,15 +9,14 @@
 // they were: one pass over the held map, one over the batch, and one to write.
 //
 // The calls are in `build_counts` and `build_densities`. Here are the definitions and laws of both,
-// their answers, and what they share: checks, siblings and the free part. Those of these functions
-// that require something are for callers that have checked it.
+// their answers, and what they share: checks, siblings and the free part.
 ghost use mathlib.Core.Path.{_≡_};
 ghost use Prim.Native.Nat.{ℕ, _+_, _-_, _*_, _^_, _≤_, _<_};
 ghost use lib.ListN.{length, getD, take, replicate};
 ghost use Rattle.zuniq.specs.Codec.{IsZuniqOf};
 ghost use Rattle.mom.specs.Map.{firstFault, ValidMap};
 ghost use Rattle.build.specs.Standing.{quadAt, siblingsFrom};
-ghost use Rattle.build.specs.Add.{settingsRefusal, lengthsRefusal, cellRefusal, checkOf, mapRefusal, mapEnd, spaceRefusal};
+ghost use Rattle.build.specs.Add.{settingsRefusal, lengthsRefusal, cellRefusal, checkOf, mapRefusal, heldRefusal, heldOr, mapEnd, spaceRefusal};
 use merger::is_nan;
 use mom::FirstFault;
 use mom::first_fault;
@@ -35,8 +34,41 @@ pub enum Check {
     Refused(Refusal),
 }
 
-// Rows 1 to 3 of the table of refusals.
-pub fn check_settings(depth: u8, depth_threshold: u8, chi2_threshold: f64) -> Check
+// Where the held map of an add call ends, as a hash of its depth, or why the call is refused.
+pub enum HeldMap {
+    EndsAt(u64),
+    Refused(Refusal),
+}
+
+// Rows 1 to 5 of the table of refusals, which both add calls have: `values` and `batch` are the lengths
+// of the buffer and of the list that hold their values.
+pub fn check_held(
+    depth: u8,
+    depth_threshold: u8,
+    chi2_threshold: f64,
+    held: usize,
+    zuniqs: &[u64],
+    values: usize,
+    hashes: usize,
+    batch: usize,
+) -> HeldMap
+    ensures { λ r. ⌜ r ≡ heldOr (heldRefusal depth «depth_threshold» «chi2_threshold» held (length (now (zuniqs .entry))) values (take held (now (zuniqs .entry))) hashes batch) (mapEnd 29 depth (take held (now (zuniqs .entry)))) ⌝ }
+{
+    if let Check::Refused(refusal) = check_settings(depth, depth_threshold, chi2_threshold) {
+        return HeldMap::Refused(refusal);
+    }
+    if let Check::Refused(refusal) = check_lengths(held, zuniqs.len(), values, hashes, batch) {
+        return HeldMap::Refused(refusal);
+    }
+    let map = &zuniqs[..held];
+    if let Check::Refused(refusal) = check_map(depth, map) {
+        return HeldMap::Refused(refusal);
+    }
+    HeldMap::EndsAt(end_of_map(depth, map))
+}
+
+// Rows 1 to 3.
+fn check_settings(depth: u8, depth_threshold: u8, chi2_threshold: f64) -> Check
     ensures { λ r. ⌜ r ≡ checkOf (settingsRefusal depth «depth_threshold» «chi2_threshold») ⌝ }
 {
     if depth == 0 {
@@ -55,7 +87,7 @@ pub fn check_settings(depth: u8, depth_threshold: u8, chi2_threshold: f64) -> Ch
 }
 
 // Row 4.
-pub fn check_lengths(
+fn check_lengths(
     held: usize,
     zuniqs: usize,
     values: usize,
@@ -88,17 +120,20 @@ pub fn check_map(depth: u8, zuniqs: &[u64]) -> Check
 
 // Row 11.
 pub fn check_space(places: usize, held: usize, batch: usize) -> Check
-    requires { ⌜ held + batch < 2 ^ 64 ⌝ }
     ensures { λ r. ⌜ r ≡ checkOf (spaceRefusal places held batch) ⌝ }
 {
-    if places < held + batch {
+    if places < held {
+        return Check::Refused(Refusal::NoSpace);
+    }
+    // The sum of the two could wrap; the difference can't.
+    if places - held < batch {
         return Check::Refused(Refusal::NoSpace);
     }
     Check::Passed
 }
 
 // Where the last entry of a valid map ends, as a hash of the map's depth.
-pub fn end_of_map(depth: u8, zuniqs: &[u64]) -> u64
+fn end_of_map(depth: u8, zuniqs: &[u64]) -> u64
     requires { ⌜ (depth ≤ 29) × ValidMap 29 depth (now zuniqs) ⌝ }
     ensures { λ r. ⌜ r ≡ mapEnd 29 depth (now (zuniqs .entry)) ⌝ }
 {
@@ -151,10 +186,13 @@ pub fn are_siblings(zuniqs: &[u64], n: usize, depth: u8, hash: u64) -> bool
 // Whether the hashes from a place on are those of children 0 to 3 of one parent. Hashes that rise have
 // the fourth of them three places further on only if all four stand there: one comparison tells.
 pub fn are_next_siblings(hashes: &[u64], i: usize) -> bool
-    requires { ⌜ (i < length (now hashes)) × (getD (now hashes) i 0 + 3 < 2 ^ 64) ⌝ }
     ensures { λ r. ⌜ r ≡ siblingsFrom (now (hashes .entry)) i ⌝ }
 {
-    if hashes.len() - i < 4 {
+    let len = hashes.len();
+    if i > len {
+        return false;
+    }
+    if len - i < 4 {
         return false;
     }
     let parent = hashes[i] / 4;

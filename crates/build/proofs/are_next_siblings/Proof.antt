@@ -1,6 +1,7 @@
 -- `are_next_siblings` meets its contract. Assumes nothing.
 use mathlib.Core.Path.{refl}
 use Prim.Native.Nat.{_-_}
+use native.Mathlib.Omega.{arith}
 use lib.ListN.{length}
 use borrow.Author.Needs.{needs}
 use borrow.Author.Tests.{le-leb, lt-leb}
@@ -8,12 +9,13 @@ use Rattle.build.specs.Standing.{siblingsFrom}
 use Rattle.build.proofs.are_next_siblings.Statement.{statement}
 use Rattle.build.proofs.are_next_siblings.Tie as tie
 
-sub-if1 : tie.Need-sub-if1
-sub-if1 c = search needs
-
 returns : tie.Need-returns
 unfolding siblingsFrom
-returns c = let a = c .before .args in rw (lt-leb 4 (length (a .hashes .now) - a .i) (c .if1 .taken)) refl
+returns c = let a = c .before .args in rw (lt-leb 4 (length (a .hashes .now) - a .i) (omega (arith, c .if1 .taken))) refl
+
+returns-2 : tie.Need-returns-2
+unfolding siblingsFrom
+returns-2 c = let a = c .before .before .args in rw (lt-leb 4 (length (a .hashes .now) - a .i) (c .if2 .taken)) refl
 
 mul-parent : tie.Need-mul-parent
 mul-parent c = search needs
@@ -31,21 +33,21 @@ shared-slice-read-result : tie.Need-shared-slice-read-result
 shared-slice-read-result c = search needs
 
 mul-result-2 : tie.Need-mul-result-2
-mul-result-2 c = search needs
+mul-result-2 c = omega (arith, c .before .shared-slice-known .given (c .before .before .before .before .args .i))
 
 add-result-2 : tie.Need-add-result-2
-add-result-2 c = search needs
+add-result-2 c = omega (arith, c .before .shared-slice-known .given (c .before .before .before .before .args .i))
 
-returns-2 : tie.Need-returns-2
+returns-3 : tie.Need-returns-3
 unfolding siblingsFrom
-returns-2 c = let a = c .before .before .before .args in rw (le-leb 4 (length (a .hashes .now) - a .i) (c .before .before .if1 .left)) refl
+returns-3 c = let a = c .before .before .before .before .args in rw (le-leb 4 (length (a .hashes .now) - a .i) (c .before .before .if2 .left)) refl
 
 pub are-next-siblings-spec : {M : Type 1} → statement M
 are-next-siblings-spec =
     tie.close
     (tie.spec
-    sub-if1
     returns
+    returns-2
     mul-parent
     shared-slice-read-parent
     add-result
@@ -53,4 +55,4 @@ are-next-siblings-spec =
     shared-slice-read-result
     mul-result-2
     add-result-2
-    returns-2)
+    returns-3)
