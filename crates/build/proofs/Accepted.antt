@@ -11,20 +11,22 @@ use lib.ListN.{length, getD, take, drop, replicate, length-drop, drop-of-length-
 use lib.Seq.{getD-take, length-take-le, take-suc}
 use borrow.Rule.Slice.PartMut.{midOf, putMid, mid-len}
 use Rattle.refusal.specs.declared.Refusal.{Refusal}
+use Rattle.merger.specs.Floats.{invalidDensity}
 use Rattle.merger.specs.Merge.{acceptCounts}
 use Rattle.merger.proofs.Accept.{accepted-count-is-sum}
 use Rattle.mom.specs.Map.{firstFault, ValidMap}
 use Rattle.build.specs.declared.counts.CountsAdded.{CountsAdded}
-use Rattle.build.specs.Map.{Entry}
+use Rattle.build.specs.Map.{Entry, orElse}
 use Rattle.build.specs.Buffers.{batch, readOnto, held, filled, zuniqOf, valueOf, zuniqBuffer, valueBuffer}
 use Rattle.build.specs.Calls.{Buffers, Batch, Answer, Calls, cells, answered, addCall}
 use Rattle.build.specs.Standing.{Stands, Added}
-use Rattle.build.specs.Add.{settingsRefusal, lengthsRefusal, mapRefusal, mapEnd, cellsRefusal, sumOf, spaceRefusal}
+use Rattle.build.specs.Add.{settingsRefusal, lengthsRefusal, mapRefusal, heldRefusal, mapEnd, cellsRefusal, sumOf, totalRefusal, spaceRefusal}
 use Rattle.build.specs.Counts.{totalOf, never, countsRefusal, Report, countCalls, countsAdded, addCounts}
+use Rattle.build.specs.Densities.{densityRefusal, densitiesRefusal}
 use Rattle.build.proofs.Adding.{run-total}
 use Rattle.build.proofs.Places.{fewer, held-suc, held-length, held-zuniqs, held-values}
 use Rattle.build.proofs.Filling.{sum-append}
-use Rattle.build.proofs.Checking.{or-else-none, settings-pass, lengths-pass, map-passes, space-passes, total-fits}
+use Rattle.build.proofs.Checking.{or-else-none, grouped, settings-pass, lengths-pass, map-passes, space-passes, total-fits}
 
 pub record Accepted {A : Type 0} (bad : A → Bool) (D m places values : ℕ) (zs hs : List ℕ) (xs : List A) : Type 0 where
   pub positive : 0 < D
@@ -64,6 +66,36 @@ counts-accepted D M T m places values zs vs hs ns e =
     let d = or-else-none _ _ (c .1) in
     let f = or-else-none _ _ (d .1) in
     (accepted never D M T m places values zs hs ns (a .0) (b .0) (c .0) (d .0) (f .1), total-fits (sumOf vs) ns (f .0))
+
+-- ---- rows 1 to 5 as one check
+pub record HeldPassed (D m places values hashes batch : ℕ) : Type 0 where
+  pub shallow : D ≤ 29
+  pub paired : places ≡ values
+  pub within : m ≤ places
+  pub batched : hashes ≡ batch
+
+pub held-passes : (D M : ℕ) (T : Float) (m places values : ℕ) (zs : List ℕ) (hashes batch : ℕ) → heldRefusal D M T m places values zs hashes batch ≡ none
+    → HeldPassed D m places values hashes batch
+unfolding heldRefusal
+held-passes D M T m places values zs hashes batch e =
+    let a = or-else-none _ _ e in
+    let l = lengths-pass m places values hashes batch (or-else-none _ _ (a .1) .0) in
+    record { shallow = settings-pass D M T (a .0) .1; paired = l .0; within = l .1; batched = l .2 }
+
+-- The refusals of an add call are those five rows and then the others.
+pub counts-after-held : (D M : ℕ) (T : Float) (m places values : ℕ) (zs vs hs ns : List ℕ)
+    → countsRefusal D M T m places values zs vs hs ns
+    ≡ orElse (heldRefusal D M T m places values zs (length hs) (length ns))
+    (orElse (cellsRefusal never D (mapEnd 29 D zs) 0 hs ns) (orElse (totalRefusal (sumOf vs) ns) (spaceRefusal places m (length hs))))
+unfolding countsRefusal heldRefusal
+counts-after-held D M T m places values zs vs hs ns = grouped (settingsRefusal D M T) (lengthsRefusal m places values (length hs) (length ns)) (mapRefusal (firstFault 29 D zs)) _
+
+pub densities-after-held : (D M : ℕ) (T : Float) (m places values : ℕ) (zs : List ℕ) (vs : List Float) (hs : List ℕ) (xs : List Float)
+    → densitiesRefusal D M T m places values zs vs hs xs
+    ≡ orElse (heldRefusal D M T m places values zs (length hs) (length xs))
+    (orElse (densityRefusal 0 vs) (orElse (cellsRefusal invalidDensity D (mapEnd 29 D zs) 0 hs xs) (spaceRefusal places m (length hs))))
+unfolding densitiesRefusal heldRefusal
+densities-after-held D M T m places values zs vs hs xs = grouped (settingsRefusal D M T) (lengthsRefusal m places values (length hs) (length xs)) (mapRefusal (firstFault 29 D zs)) _
 
 -- A valid map stands in its places.
 pub valid-stands : {A : Type 0} (K D m : ℕ) (zs : List ℕ) (vs : List A) → m ≤ length zs → m ≤ length vs → ValidMap K D (take m zs) → Stands K m zs vs

@@ -44,9 +44,11 @@ pub refuses : {x : Check} {q : Refusal} (o p : Option Refusal) → x ≡ checkOf
 refuses {q = q} o p e k = rw (check-refused o q (sym k ∙ e)) refl
 
 -- Refusals in order may be tried in groups.
-pub or-else-assoc : (a b c : Option Refusal) → orElse (orElse a b) c ≡ orElse a (orElse b c)
-or-else-assoc none b c = refl
-or-else-assoc (some r) b c = refl
+pub grouped : (a b c d : Option Refusal) → orElse a (orElse b (orElse c d)) ≡ orElse (orElse a (orElse b c)) d
+grouped none none none d = refl
+grouped none none (some r) d = refl
+grouped none (some r) c d = refl
+grouped (some r) b c d = refl
 
 -- What the check of the held map answers tells what it found.
 pub held-passed : (o : Option Refusal) (n e : ℕ) → heldOr o n ≡ HeldMap.EndsAt e → (o ≡ none) × (n ≡ e)

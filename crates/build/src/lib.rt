@@ -87,13 +87,7 @@ fn check_settings(depth: u8, depth_threshold: u8, chi2_threshold: f64) -> Check
 }
 
 // Row 4.
-fn check_lengths(
-    held: usize,
-    zuniqs: usize,
-    values: usize,
-    hashes: usize,
-    batch: usize,
-) -> Check
+fn check_lengths(held: usize, zuniqs: usize, values: usize, hashes: usize, batch: usize) -> Check
     ensures { λ r. ⌜ r ≡ checkOf (lengthsRefusal held zuniqs values hashes batch) ⌝ }
 {
     if zuniqs != values {

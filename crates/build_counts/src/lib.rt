@@ -8,22 +8,20 @@ ghost use Rattle.zuniq.specs.Cells.{nHash};
 ghost use Rattle.zuniq.specs.Codec.{IsZuniqOf};
 ghost use Rattle.refusal.specs.declared.Refusal.{Refusal};
 ghost use Rattle.merger.specs.Merge.{mergeCounts, acceptCounts};
-ghost use Rattle.build.specs.Map.{entry};
+ghost use Rattle.build.specs.Map.{entry, orElse};
 ghost use Rattle.build.specs.Buffers.{held, held as heldMap, batch as batchOf};
 ghost use Rattle.build.specs.Standing.{Stands, Rising, siblings, Collapsed, Pushed, Added};
-ghost use Rattle.build.specs.Add.{checkOf, hashesRefusal, sumOf, cappedSum, totalRefusal};
+ghost use Rattle.build.specs.Add.{checkOf, hashesRefusal, sumOf, cappedSum, totalRefusal, spaceRefusal};
 ghost use Rattle.build.specs.Counts.{totalOf, totalOr, countsRefusal, addCounts};
 use build::Check;
+use build::HeldMap;
 use build::are_next_siblings;
 use build::are_siblings;
 use build::check_cell;
-use build::check_lengths;
-use build::check_map;
-use build::check_settings;
+use build::check_held;
 use build::check_space;
 use build::counts::CountsAdded;
 use build::counts::Total;
-use build::end_of_map;
 use build::free::clear_counts;
 use build::free::clear_zuniqs;
 use build::free::put_count;
@@ -92,30 +90,48 @@ fn check(
 ) -> Total
     ensures { λ r. ⌜ r ≡ totalOr (countsRefusal depth «depth_threshold» «chi2_threshold» held (length (now (zuniqs .entry))) (length (now (counts .entry))) (take held (now (zuniqs .entry))) (take held (now (counts .entry))) (now (hashes .entry)) (now (batch .entry))) (sumOf (take held (now (counts .entry))) + sumOf (now (batch .entry))) ⌝ }
 {
-    if let Check::Refused(refusal) = check_settings(depth, depth_threshold, chi2_threshold) {
-        return Total::Refused(refusal);
-    }
-    if let Check::Refused(refusal) = check_lengths(
+    match check_held(
+        depth,
+        depth_threshold,
+        chi2_threshold,
         held,
-        zuniqs.len(),
+        zuniqs,
         counts.len(),
         hashes.len(),
         batch.len(),
     ) {
-        return Total::Refused(refusal);
+        HeldMap::Refused(refusal) => Total::Refused(refusal),
+        HeldMap::EndsAt(end) => check_batch(
+            depth,
+            end,
+            &counts[..held],
+            zuniqs.len(),
+            hashes,
+            batch,
+        ),
     }
-    if let Check::Refused(refusal) = check_map(depth, &zuniqs[..held]) {
-        return Total::Refused(refusal);
-    }
-    let end = end_of_map(depth, &zuniqs[..held]);
+}
+
+// Rows 7, 8, 10 and 11, of a batch behind a map that ends at `end` and holds these counts.
+fn check_batch(
+    depth: u8,
+    end: u64,
+    held: &[u32],
+    places: usize,
+    hashes: &[u64],
+    batch: &[u32],
+) -> Total
+    requires { ⌜ depth ≤ 29 ⌝ }
+    ensures { λ r. ⌜ r ≡ totalOr (orElse (hashesRefusal depth end 0 (now (hashes .entry))) (orElse (totalRefusal (sumOf (now (held .entry))) (now (batch .entry))) (spaceRefusal places (length (now (held .entry))) (length (now (hashes .entry)))))) (sumOf (now (held .entry)) + sumOf (now (batch .entry))) ⌝ }
+{
     if let Check::Refused(refusal) = check_cells(depth, end, hashes) {
         return Total::Refused(refusal);
     }
-    let total = check_total(capped_sum(&counts[..held]), batch);
+    let total = check_total(capped_sum(held), batch);
     if let Total::Refused(refusal) = total {
         return Total::Refused(refusal);
     }
-    if let Check::Refused(refusal) = check_space(zuniqs.len(), held, hashes.len()) {
+    if let Check::Refused(refusal) = check_space(places, held.len(), hashes.len()) {
         return Total::Refused(refusal);
     }
     total

@@ -9,21 +9,19 @@ ghost use Rattle.zuniq.specs.Cells.{nHash};
 ghost use Rattle.zuniq.specs.Codec.{IsZuniqOf};
 ghost use Rattle.merger.specs.Floats.{invalidDensity};
 ghost use Rattle.merger.specs.Merge.{unitDensity, mergeDensities, acceptDensities};
-ghost use Rattle.build.specs.Map.{entry};
+ghost use Rattle.build.specs.Map.{entry, orElse};
 ghost use Rattle.build.specs.Buffers.{held, batch as batchOf};
 ghost use Rattle.build.specs.Standing.{Stands, Rising, siblings, Collapsed, Pushed, Added};
-ghost use Rattle.build.specs.Add.{checkOf, cellsRefusal};
+ghost use Rattle.build.specs.Add.{checkOf, cellsRefusal, spaceRefusal};
 ghost use Rattle.build.specs.Densities.{densityRefusal, densitiesRefusal, addDensities};
 use build::Check;
+use build::HeldMap;
 use build::are_next_siblings;
 use build::are_siblings;
 use build::check_cell;
-use build::check_lengths;
-use build::check_map;
-use build::check_settings;
+use build::check_held;
 use build::check_space;
 use build::densities::DensitiesAdded;
-use build::end_of_map;
 use build::free::clear_densities;
 use build::free::clear_zuniqs;
 use build::free::put_density;
@@ -90,29 +88,47 @@ fn check(
 ) -> Check
     ensures { λ r. ⌜ r ≡ checkOf (densitiesRefusal depth «depth_threshold» «chi2_threshold» held (length (now (zuniqs .entry))) (length (now (densities .entry))) (take held (now (zuniqs .entry))) (take held (now (densities .entry))) (now (hashes .entry)) (now (batch .entry))) ⌝ }
 {
-    if let Check::Refused(refusal) = check_settings(depth, depth_threshold, chi2_threshold) {
-        return Check::Refused(refusal);
-    }
-    if let Check::Refused(refusal) = check_lengths(
+    match check_held(
+        depth,
+        depth_threshold,
+        chi2_threshold,
         held,
-        zuniqs.len(),
+        zuniqs,
         densities.len(),
         hashes.len(),
         batch.len(),
     ) {
+        HeldMap::Refused(refusal) => Check::Refused(refusal),
+        HeldMap::EndsAt(end) => check_batch(
+            depth,
+            end,
+            &densities[..held],
+            zuniqs.len(),
+            hashes,
+            batch,
+        ),
+    }
+}
+
+// Rows 6 to 9 and 11, of a batch behind a map that ends at `end` and holds these densities.
+fn check_batch(
+    depth: u8,
+    end: u64,
+    held: &[f64],
+    places: usize,
+    hashes: &[u64],
+    batch: &[f64],
+) -> Check
+    requires { ⌜ (depth ≤ 29) × (length (now hashes) ≡ length (now batch)) ⌝ }
+    ensures { λ r. ⌜ r ≡ checkOf (orElse (densityRefusal 0 (now (held .entry))) (orElse (cellsRefusal invalidDensity depth end 0 (now (hashes .entry)) (now (batch .entry))) (spaceRefusal places (length (now (held .entry))) (length (now (hashes .entry)))))) ⌝ }
+{
+    if let Check::Refused(refusal) = check_densities(held) {
         return Check::Refused(refusal);
     }
-    if let Check::Refused(refusal) = check_map(depth, &zuniqs[..held]) {
-        return Check::Refused(refusal);
-    }
-    if let Check::Refused(refusal) = check_densities(&densities[..held]) {
-        return Check::Refused(refusal);
-    }
-    let end = end_of_map(depth, &zuniqs[..held]);
     if let Check::Refused(refusal) = check_cells(depth, end, hashes, batch) {
         return Check::Refused(refusal);
     }
-    check_space(zuniqs.len(), held, hashes.len())
+    check_space(places, held.len(), hashes.len())
 }
 
 // Appends the cells of a batch. Answers the number of entries.

@@ -37,11 +37,7 @@ shared-slice-read-hash : tie.Need-shared-slice-read-hash Inv-loop μ-loop
 shared-slice-read-hash c = search needs
 
 are-next-siblings-requires : tie.Need-are-next-siblings-requires Inv-loop μ-loop
-are-next-siblings-requires c κs = let o = c .before .before .loop in
-    let a = c .before .before .before .before .before .before .before .args in
-    let p = c .before .before .before .before .before .before .before .pre in
-    let t = c .before .loop-test .taken in
-    (t, hash-fits (a .depth) _ (p .0 .2) (p .1 .0 .below (o .i) t))
+are-next-siblings-requires c κs = search needs
 
 mul-push-siblings : tie.Need-mul-push-siblings Inv-loop μ-loop
 mul-push-siblings c = let o = c .before .before .before .before .before .before .loop in
