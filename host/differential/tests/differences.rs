@@ -496,3 +496,53 @@ fn the_check_of_rows_refuses_a_short_last_row_and_more_than_4096() {
         assert_eq!(rows::check_is_mom(29, &bytes), refused(number, 0));
     }
 }
+
+fn rows_of(zuniqs: &[u64]) -> Vec<u8> {
+    let row = |zuniq: &u64| [&zuniq.to_le_bytes()[..], &[9, 0, 0, 0]].concat();
+    zuniqs.iter().flat_map(row).collect()
+}
+
+/// The original's test of the depths is reversed, and the last entry's depth never tested.
+#[test]
+fn the_check_of_rows_tests_the_depth_of_every_row() {
+    let map = zuniqs([(1, 2), (1, 4)]);
+    let bytes = rows_of(&map);
+    let error = run::rows_check_is_mom::<u64, u32>(2, &bytes).unwrap_err();
+    assert!(error.starts_with("Element has a larger depth"), "{error}");
+    assert_eq!(rows::check_is_mom(2, &bytes), Ok(MapCheck::Valid));
+    assert_eq!(run::rows_check_is_mom::<u64, u32>(0, &bytes), Ok(()));
+    let too_deep = MapCheck::Faulty {
+        place: 0,
+        fault: Fault::TooDeep,
+    };
+    assert_eq!(rows::check_is_mom(0, &bytes), Ok(too_deep));
+}
+
+/// The original takes 1 from the search place. Under `release`, where that wraps, it would read the
+/// row before its bytes, which has no defined outcome: there it isn't called.
+#[test]
+fn the_overlapping_over_rows_answers_where_no_entry_stands_before_the_query() {
+    let [cell] = zuniqs([(0, 0)]);
+    for (map, found) in [(&[][..], 0..0), (&[cell], 0..1)] {
+        let bytes = rows_of(map);
+        #[cfg(debug_assertions)]
+        // SAFETY: the profile is `checked`.
+        assert!(panics(|| unsafe {
+            run::rows_overlapped::<u64, u32>(29, &bytes, cell)
+        }));
+        assert_eq!(rows::get_overlapped_cells(&bytes, cell), Ok(found));
+    }
+}
+
+#[test]
+fn the_overlapping_over_rows_finds_entry_0() {
+    let over = (&zuniqs([(0, 11)])[..], (1, 47), 1);
+    let inside = (&zuniqs([(2, 0), (2, 1)])[..], (0, 0), 2);
+    for (map, query, found) in [over, inside] {
+        let (bytes, [query]) = (rows_of(map), zuniqs([query]));
+        // SAFETY: the first entry stands before the query.
+        let original = unsafe { run::rows_overlapped::<u64, u32>(29, &bytes, query) };
+        assert_eq!(original.len(), found - 1);
+        assert_eq!(rows::get_overlapped_cells(&bytes, query), Ok(0..found));
+    }
+}

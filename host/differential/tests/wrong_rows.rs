@@ -1,9 +1,10 @@
-//! Wrong rows and densities: the random inputs must tell each from the original's often enough for a
+//! Wrong rows, maps of rows and densities: the random inputs must tell each from the original's often enough for a
 //! short run to find it.
 
 use differential::{
     compare::Kind,
     floats::Float,
+    kinds::{CheckOfRows, ContainingInRows, OverlappedInRows},
     kinds::{DensityOfCount, Read, RowValue, Write},
     random::Random,
 };
@@ -95,5 +96,74 @@ fn no_wrong_writing_is_missed() {
             }
         };
         Write::<u64>::ours(&entries.iter().map(|&(z, p)| (z, quiet(p))).collect())
+    });
+}
+
+/// The wrong check is asked the hashes, all of one depth.
+#[test]
+fn no_wrong_check_of_rows_is_missed() {
+    let of_hashes = |wrong, change: fn(&mut Vec<u64>)| {
+        assert_found::<CheckOfRows>(wrong, |input| {
+            let mut input = input.clone();
+            change(&mut input.hashes);
+            CheckOfRows::original(&input)
+        });
+    };
+    of_hashes("without the last row", |hashes| {
+        hashes.pop();
+    });
+    of_hashes("without the first row", |hashes| {
+        hashes.drain(..hashes.len().min(1));
+    });
+    of_hashes("equal rows taken for one", |hashes| hashes.dedup());
+    assert_found::<CheckOfRows>("any rows are a map", |_| Ok(Ok(())));
+}
+
+/// A wrong answer that is right where no entry is found.
+#[test]
+fn no_wrong_containing_in_rows_is_missed() {
+    let of_found = |wrong, change: fn((u64, u32)) -> Option<(u64, u32)>| {
+        assert_found::<ContainingInRows>(wrong, |input| {
+            Ok(ContainingInRows::original(input)?.and_then(change))
+        });
+    };
+    of_found("none", |_| None);
+    of_found("never the first row", |entry| {
+        (entry.1 > 0).then_some(entry)
+    });
+    of_found("never past the first row", |entry| {
+        (entry.1 == 0).then_some(entry)
+    });
+    assert_found::<ContainingInRows>("only the query itself", |input| {
+        let entry = ContainingInRows::original(input)?;
+        Ok(entry.filter(|entry| entry.0 == input.query.zuniq()))
+    });
+}
+
+#[test]
+fn no_wrong_overlapping_over_rows_is_missed() {
+    let of_run = |wrong, change: fn(&mut Entries<u32>)| {
+        assert_found::<OverlappedInRows>(wrong, |input| {
+            let mut run = OverlappedInRows::original(input)?;
+            change(&mut run);
+            Ok(run)
+        });
+    };
+    of_run("none", |run| run.clear());
+    of_run("only the first", |run| run.truncate(1));
+    of_run("without the first of several", |run| {
+        if run.len() > 1 {
+            run.remove(0);
+        }
+    });
+    of_run("without the last of several", |run| {
+        if run.len() > 1 {
+            run.pop();
+        }
+    });
+    assert_found::<OverlappedInRows>("only what lies before the query", |input| {
+        let mut run = OverlappedInRows::original(input)?;
+        run.retain(|entry| entry.0 <= input.query.zuniq());
+        Ok(run)
     });
 }

@@ -288,10 +288,15 @@ pub fn rows_containing<Z: Z4FITS, V: V4FITS>(
     MomSliceImpl::new(depth, bytes).get_copy_of_cell_containing(zuniq)
 }
 
-/// Only under `checked`, which panics at search place 0: there the wrapped place would have the
-/// original read before its bytes.
-#[cfg(debug_assertions)]
-pub fn rows_overlapped<Z: Z4FITS, V: V4FITS>(depth: u8, bytes: &[u8], zuniq: Z) -> Vec<(Z, V)> {
+/// # Safety
+///
+/// Some entry stands before the query, or the profile is `checked`, which panics where none does.
+/// Where the search place 0 less 1 wraps, the original reads before its bytes.
+pub unsafe fn rows_overlapped<Z: Z4FITS, V: V4FITS>(
+    depth: u8,
+    bytes: &[u8],
+    zuniq: Z,
+) -> Vec<(Z, V)> {
     MomSliceImpl::new(depth, bytes)
         .get_copy_of_overlapped_cells(zuniq)
         .collect()

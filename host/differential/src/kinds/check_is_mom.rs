@@ -13,15 +13,18 @@ use crate::{
 
 pub struct CheckIsMom;
 
-#[derive(Debug, PartialEq, Eq, PartialOrd, Ord)]
+#[derive(Clone, Debug, PartialEq, Eq, PartialOrd, Ord)]
 pub struct Input {
-    depth: u8,
+    pub depth: u8,
     /// All below N(depth).
-    hashes: Vec<u64>,
+    pub hashes: Vec<u64>,
 }
 
+/// The original's message where the list is faulty.
+pub type Answer = Result<Result<(), String>, Refusal>;
+
 impl Input {
-    fn zuniqs(&self) -> Vec<u64> {
+    pub fn zuniqs(&self) -> Vec<u64> {
         let cell = |&hash| Cell {
             depth: self.depth,
             hash,
@@ -30,11 +33,25 @@ impl Input {
     }
 }
 
+/// What ours found, in the original's words where it has them.
+pub fn told(check: MapCheck, zuniqs: &[u64]) -> Result<(), String> {
+    match check {
+        MapCheck::Valid => Ok(()),
+        MapCheck::Faulty {
+            place,
+            fault: Fault::NotAbove,
+        } => {
+            let (l, r) = (zuniqs[place - 1], zuniqs[place]);
+            Err(format!("The MOM is not ordered: {l} >= {r}"))
+        }
+        MapCheck::Faulty { place, fault } => Err(format!("{fault:?} at {place}")),
+    }
+}
+
 impl Kind for CheckIsMom {
     const NAME: &'static str = "check_is_mom";
     type Input = Input;
-    /// The original's message where the list is faulty.
-    type Answer = Result<Result<(), String>, Refusal>;
+    type Answer = Answer;
 
     fn small() -> impl Iterator<Item = Input> {
         [(0, 3), (1, 2)].into_iter().flat_map(|(depth, longest)| {
@@ -78,17 +95,8 @@ impl Kind for CheckIsMom {
 
     fn ours(input: &Input) -> Self::Answer {
         let zuniqs = input.zuniqs();
-        Ok(match mom::check_is_mom(input.depth, &zuniqs)? {
-            MapCheck::Valid => Ok(()),
-            MapCheck::Faulty {
-                place,
-                fault: Fault::NotAbove,
-            } => {
-                let (l, r) = (zuniqs[place - 1], zuniqs[place]);
-                Err(format!("The MOM is not ordered: {l} >= {r}"))
-            }
-            MapCheck::Faulty { place, fault } => Err(format!("{fault:?} at {place}")),
-        })
+        let check = mom::check_is_mom(input.depth, &zuniqs)?;
+        Ok(told(check, &zuniqs))
     }
 
     fn original(input: &Input) -> Self::Answer {

@@ -14,9 +14,9 @@ pub struct GetCellContaining;
 
 #[derive(Debug, PartialEq, Eq, PartialOrd, Ord)]
 pub struct Input {
-    map: Map,
+    pub map: Map,
     /// At the map's depth.
-    query: Cell,
+    pub query: Cell,
 }
 
 impl Kind for GetCellContaining {

@@ -15,13 +15,13 @@ pub struct GetOverlappedCells;
 
 #[derive(Debug, PartialEq, Eq, PartialOrd, Ord)]
 pub struct Input {
-    map: Map,
-    query: Cell,
+    pub map: Map,
+    pub query: Cell,
 }
 
 impl Input {
     /// Whether the original neither panics nor passes over entry 0.
-    fn is_comparable(&self) -> bool {
+    pub fn is_comparable(&self) -> bool {
         let first = self.map.cells().first();
         first.is_some_and(|first| first.zuniq() < self.query.zuniq() && !first.overlaps(self.query))
     }

@@ -11,6 +11,7 @@ mod density_of_count;
 mod from_zuniq;
 mod get_cell_containing;
 mod get_overlapped_cells;
+mod maps_of_rows;
 mod n_hash;
 mod pool;
 mod product;
@@ -33,8 +34,9 @@ pub use density_of_count::DensityOfCount;
 pub use from_zuniq::FromZuniq;
 pub use get_cell_containing::GetCellContaining;
 pub use get_overlapped_cells::GetOverlappedCells;
+pub use maps_of_rows::{CheckOfRows, ContainingInRows, OverlappedInRows};
 pub use n_hash::NHash;
-pub use rows::{ContainingInRows, Read, Value as RowValue, Write};
+pub use rows::{Read, Value as RowValue, Write};
 pub use to_zuniq::ToZuniq;
 
 pub type AddCounts = Add<u32>;
@@ -75,5 +77,7 @@ pub static KINDS: &[Entry] = &[
     entry::<Read<u64>>(),
     entry::<Write<u32>>(),
     entry::<Write<u64>>(),
+    entry::<CheckOfRows>(),
     entry::<ContainingInRows>(),
+    entry::<OverlappedInRows>(),
 ];

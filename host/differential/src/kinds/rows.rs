@@ -1,17 +1,12 @@
-//! Rows of any bytes, and maps that come as rows. The original drops a short last row, which ours
-//! refuses, so that bytes to be read are whole rows here.
+//! Rows of any bytes. The original drops a short last row, which ours refuses, so that bytes to be
+//! read are whole rows here.
 
 use std::{fmt::Debug, marker::PhantomData};
 
 use mom::{rows, Refusal};
 use oracle::run;
 
-use crate::{
-    cells::{n_hash, Cell, DEPTH_MAX},
-    compare::Kind,
-    maps::{at_depth, Map},
-    random::Random,
-};
+use crate::{compare::Kind, random::Random};
 
 /// What stands behind the zuniq in a row.
 pub trait Value: Copy + Debug + Default + Ord + Send + Sync {
@@ -165,60 +160,5 @@ impl<V: Value> Kind for Write<V> {
 
     fn original(entries: &Vec<(u64, V)>) -> Self::Answer {
         Ok(V::original_write(entries.clone()))
-    }
-}
-
-/// The entry over a cell of the map's depth, in valid maps of rows.
-pub struct ContainingInRows;
-
-#[derive(Debug, PartialEq, Eq, PartialOrd, Ord)]
-pub struct Input {
-    map: Map,
-    /// At the map's depth.
-    query: Cell,
-}
-
-impl Input {
-    fn rows(&self) -> Vec<u8> {
-        let row = |(z, n): (u64, u32)| [&z.to_le_bytes()[..], &n.to_le_bytes()].concat();
-        self.map.entries().into_iter().flat_map(row).collect()
-    }
-}
-
-impl Kind for ContainingInRows {
-    const NAME: &'static str = "containing_in_rows";
-    type Input = Input;
-    /// The zuniq of the entry and its place, or none.
-    type Answer = Result<Option<(u64, u32)>, Refusal>;
-
-    /// Without the maps of two entries, which are most.
-    fn small() -> impl Iterator<Item = Input> {
-        let maps = Map::small().filter(|map| map.cells().len() != 2);
-        maps.flat_map(|map| {
-            let deepest = map.cells().iter().map(|cell| cell.depth).max();
-            let depth = deepest.unwrap_or(0);
-            (0..n_hash(depth)).map(move |hash| Input {
-                map: map.clone(),
-                query: Cell { depth, hash },
-            })
-        })
-    }
-
-    fn random(random: &mut Random) -> Option<Input> {
-        let depth = random.below(DEPTH_MAX as u64 + 1) as u8;
-        let map = Map::random(depth, random);
-        let query = at_depth(map.query(random), depth, random);
-        Some(Input { map, query })
-    }
-
-    fn ours(input: &Input) -> Self::Answer {
-        let Input { map, query } = input;
-        let row = rows::get_cell_containing(query.depth, &input.rows(), query.zuniq())?;
-        Ok(row.map(|row| (map.zuniqs()[row], row as u32)))
-    }
-
-    fn original(input: &Input) -> Self::Answer {
-        let Input { query, .. } = input;
-        Ok(run::rows_containing(query.depth, &input.rows(), query.zuniq()).unwrap())
     }
 }
