@@ -119,21 +119,18 @@ fn no_wrong_check_of_rows_is_missed() {
     assert_found::<CheckOfRows>("any rows are a map", |_| Ok(Ok(())));
 }
 
-/// A wrong answer that is right where no entry is found.
+/// Wrong answers that are right where no entry is found.
 #[test]
 fn no_wrong_containing_in_rows_is_missed() {
-    let of_found = |wrong, change: fn((u64, u32)) -> Option<(u64, u32)>| {
+    let found_in = |wrong, is_seen: fn(u32) -> bool| {
         assert_found::<ContainingInRows>(wrong, |input| {
-            Ok(ContainingInRows::original(input)?.and_then(change))
+            let entry = ContainingInRows::original(input)?;
+            Ok(entry.filter(|entry| is_seen(entry.1)))
         });
     };
-    of_found("none", |_| None);
-    of_found("never the first row", |entry| {
-        (entry.1 > 0).then_some(entry)
-    });
-    of_found("never past the first row", |entry| {
-        (entry.1 == 0).then_some(entry)
-    });
+    found_in("none", |_| false);
+    found_in("never the first row", |row| row > 0);
+    found_in("never past the first row", |row| row == 0);
     assert_found::<ContainingInRows>("only the query itself", |input| {
         let entry = ContainingInRows::original(input)?;
         Ok(entry.filter(|entry| entry.0 == input.query.zuniq()))

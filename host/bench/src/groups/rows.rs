@@ -41,7 +41,7 @@ pub fn run(plan: Plan) {
         &counts,
         (write_count_rows, read_count_rows),
         |bytes| run::write_rows_into(&count_mom, bytes),
-        |bytes, zuniqs, counts| run::read_rows_into(bytes, zuniqs, counts),
+        run::read_rows_into,
         |count: u32| count,
     );
     rows(
@@ -51,7 +51,7 @@ pub fn run(plan: Plan) {
         &patterns,
         (write_density_rows, read_density_rows),
         |bytes| run::write_rows_into(&density_mom, bytes),
-        |bytes, zuniqs, densities| run::read_rows_into(bytes, zuniqs, densities),
+        run::read_rows_into,
         f64::to_bits,
     );
 }
