@@ -1,4 +1,5 @@
-//! Links libmom_c.a from target/staticlib of the repository, or from where MOM_LIB_DIR points.
+//! Links libmom_c.a from target/staticlib of the repository, or from where MOM_LIB_DIR points. That
+//! has to be absolute: cargo runs this in the package's directory, wherever it was called itself.
 
 use std::{env, path::PathBuf};
 
@@ -10,7 +11,12 @@ fn main() {
     };
     let archive = dir.join("libmom_c.a");
     println!("cargo::rerun-if-changed={}", archive.display());
-    if archive.is_file() {
+    if !dir.is_absolute() {
+        println!(
+            "cargo::error=MOM_LIB_DIR is {:?}: it has to be an absolute path",
+            dir.display()
+        );
+    } else if archive.is_file() {
         println!("cargo::rustc-link-search=native={}", dir.display());
         println!("cargo::rustc-link-lib=static=mom_c");
     } else {

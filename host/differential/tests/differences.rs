@@ -13,8 +13,8 @@ use oracle::run;
 /// The first number past the last zuniq that doesn't end in 60 or more zeros.
 const PAST_LAST: u64 = 6917529027641081857;
 
-fn refused<T>(number: u8, place: u64) -> Result<T, Refusal> {
-    Err(Refusal { number, place })
+fn refused<T>(number: u8, place: usize) -> Result<T, Refusal> {
+    Err(Refusal::of(number, place).unwrap())
 }
 
 fn panics<T>(call: impl FnOnce() -> T) -> bool {
@@ -193,7 +193,7 @@ fn the_density_merger_refuses_what_is_below_0() {
             let answer = run::merge_densities(0, 0, 0.0, densities).map(f64::to_bits);
             assert_eq!(answer, Some(f64::to_bits(density)), "{densities:?}");
             let ours = mom::chi2_density_merger(0, 0, 0.0, densities);
-            assert_eq!(ours, refused(9, child as u64));
+            assert_eq!(ours, refused(9, child));
         }
     }
 }
@@ -208,7 +208,7 @@ fn the_density_merger_refuses_what_is_nan_or_infinite() {
             densities[child] = faulty;
             assert_eq!(run::merge_densities(0, 0, t, densities), None);
             let ours = mom::chi2_density_merger(0, 0, t, densities);
-            assert_eq!(ours, refused(9, child as u64));
+            assert_eq!(ours, refused(9, child));
         }
     }
 }
@@ -324,7 +324,7 @@ fn original_built((depth, m, t): (u8, u8, f64), cells: &[(u64, u32)]) -> Vec<(u6
     run::build_counts(depth, m, t, cells.iter().copied())
 }
 
-fn assert_refused(setting: (u8, u8, f64), cells: &[(u64, u32)], number: u8, place: u64) {
+fn assert_refused(setting: (u8, u8, f64), cells: &[(u64, u32)], number: u8, place: usize) {
     let (answer, first) = added(setting, cells);
     assert_eq!(answer, refused(number, place));
     assert_eq!(first, (77, 77));
@@ -386,7 +386,7 @@ fn assert_densities_refused(
     (depth, m, t): (u8, u8, f64),
     cells: &[(u64, f64)],
     number: u8,
-    place: u64,
+    place: usize,
 ) {
     let (hashes, batch): (Vec<u64>, Vec<f64>) = cells.iter().copied().unzip();
     let (mut zuniqs, mut densities) = ([77; 8], [77.0; 8]);

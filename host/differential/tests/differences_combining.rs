@@ -65,8 +65,8 @@ fn ours((dl, left, dr, right, m, t): Pair) -> Result<Entries<u32>, Refusal> {
     answer.map(|_| entries)
 }
 
-fn assert_refused(pair: Pair, number: u8, place: u64) {
-    assert_eq!(ours(pair), Err(Refusal { number, place }));
+fn assert_refused(pair: Pair, number: u8, place: usize) {
+    assert_eq!(ours(pair), Err(Refusal::of(number, place).unwrap()));
 }
 
 /// The original starts from the first cell at the result's depth.
@@ -183,7 +183,7 @@ fn assert_product_refused(k: f64, left: f64, right: f64, number: u8) {
     let (left, right) = ([left], [right]);
     let (z, d) = (&mut zuniqs, &mut densities);
     let answer = product(map(&left), map(&right), 0, 0.0, k, z, d);
-    assert_eq!(answer, Err(Refusal { number, place: 0 }));
+    assert_eq!(answer, Err(Refusal::of(number, 0).unwrap()));
     assert_eq!((zuniqs, densities), ([77; 2], [77.0; 2]));
 }
 

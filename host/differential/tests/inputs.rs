@@ -305,11 +305,12 @@ fn drawn_steps<V: Value>(seed: u64) -> impl Iterator<Item = Step<V>> {
 
 impl<V: Value> Step<V> {
     fn is_refused(&self, number: u8) -> bool {
-        self.refusal.is_some_and(|refusal| refusal.number == number)
+        self.refusal
+            .is_some_and(|refusal| refusal.number() == number)
     }
 
     fn is_refused_past_0(&self, number: u8) -> bool {
-        self.is_refused(number) && self.refusal.is_some_and(|refusal| refusal.place > 0)
+        self.is_refused(number) && self.refusal.is_some_and(|refusal| refusal.place() > 0)
     }
 
     fn merges(&self) -> u8 {

@@ -53,12 +53,14 @@ fn assert_none_is_rare<V: Combine>(drawn: &[Drawn<V>], classes: &[Class<V>]) {
 
 impl<V: Combine> Drawn<V> {
     fn is_refused(&self, number: u8) -> bool {
-        self.judged.0.is_err_and(|refusal| refusal.number == number)
+        self.judged
+            .0
+            .is_err_and(|refusal| refusal.number() == number)
     }
 
     fn is_refused_past_0(&self, number: u8) -> bool {
         let refusal = self.judged.0.err();
-        refusal.is_some_and(|refusal| refusal.number == number && refusal.place > 0)
+        refusal.is_some_and(|refusal| refusal.number() == number && refusal.place() > 0)
     }
 
     fn entries(&self) -> Vec<(Cell, V)> {
@@ -246,7 +248,7 @@ fn no_order_changes_the_pool() {
         let input = Input::<u32>::random(&mut random);
         let [given, swapped] = Pool::ours(&input);
         // Two invalid maps are told apart by which comes first.
-        if given.0.is_err_and(|refusal| refusal.number == 5) {
+        if given.0.is_err_and(|refusal| refusal.number() == 5) {
             continue;
         }
         assert_eq!(given, swapped, "{input:?}");

@@ -171,7 +171,7 @@ impl<V: Value> Drawn<V> {
             }
             refusal
         });
-        found!("the place of a refusal lost", refuse: |refusal, _| Refusal { place: 0, ..refusal });
+        found!("the place of a refusal lost", refuse: |refusal, _| Refusal::of(refusal.number(), 0).unwrap());
     }
 }
 

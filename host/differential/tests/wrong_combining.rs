@@ -103,7 +103,7 @@ impl<V: Combine> Program<V> {
         zuniqs: &mut [u64],
         values: &mut [V],
     ) -> Answer<V> {
-        if let Some(refusal) = refusal.filter(|refusal| refusal.number != 11) {
+        if let Some(refusal) = refusal.filter(|refusal| refusal.number() != 11) {
             return Err((self.refuse)(refusal, zuniqs, values));
         }
         let map = self.combined(input);
@@ -198,13 +198,13 @@ impl<V: Combine> Drawn<V> {
         found!("a zuniq not cleared", cleared: |places| [places.saturating_sub(1), places]);
         found!("a value not cleared", cleared: |places| [places, places.saturating_sub(1)]);
         found!("the output cleared before 11 is known", refuse: |refusal, zuniqs, _| {
-            if refusal.number == 11 {
+            if refusal.number() == 11 {
                 zuniqs.fill(0);
             }
             refusal
         });
         found!("a value written before 11 is known", refuse: |refusal, _, values| {
-            if let (11, Some(first)) = (refusal.number, values.first_mut()) {
+            if let (11, Some(first)) = (refusal.number(), values.first_mut()) {
                 *first = V::ZERO;
             }
             refusal
@@ -215,7 +215,7 @@ impl<V: Combine> Drawn<V> {
             }
             refusal
         });
-        found!("the place of a refusal lost", refuse: |refusal, _, _| Refusal { place: 0, ..refusal });
+        found!("the place of a refusal lost", refuse: |refusal, _, _| Refusal::of(refusal.number(), 0).unwrap());
         found!("places for the merged entries alone", is_full: |places, entries| places < entries);
         found!("both taking the left alone", rule: |k, left, right| match (left, right) {
             (Some(left), Some(_)) => Some(left),

@@ -3,44 +3,59 @@
 //!
 //!     ingest FILE DEPTH [ZUNIQ..]
 //!
-//! Prints the number of rows, and for each cell the counts of the entries that it overlaps.
+//! Prints the number of rows, and for each cell the counts of the entries that it overlaps. A cell
+//! that is refused is named with the reason on standard error; the others are answered all the same,
+//! and the status is 1.
 
-use std::{env, error::Error, fs, process::ExitCode};
+use std::{env, error::Error, fs, ops::Range, process::ExitCode};
 
 use mom::{rows, MapCheck};
 
 fn main() -> ExitCode {
     let arguments: Vec<String> = env::args().skip(1).collect();
-    match ingest(&arguments) {
-        Ok(lines) => {
-            println!("{}", lines.join("\n"));
-            ExitCode::SUCCESS
-        }
-        Err(error) => {
-            eprintln!("ingest: {error}");
-            ExitCode::FAILURE
+    let lines = ingest(&arguments).unwrap_or_else(|error| vec![Err(error)]);
+    let mut status = ExitCode::SUCCESS;
+    for line in lines {
+        match line {
+            Ok(line) => println!("{line}"),
+            Err(error) => {
+                eprintln!("ingest: {error}");
+                status = ExitCode::FAILURE;
+            }
         }
     }
+    status
 }
 
-fn ingest(arguments: &[String]) -> Result<Vec<String>, Box<dyn Error>> {
+type Line = Result<String, Box<dyn Error>>;
+
+/// The number of rows, then a line for each cell.
+fn ingest(arguments: &[String]) -> Result<Vec<Line>, Box<dyn Error>> {
     let [file, depth, cells @ ..] = arguments else {
         return Err("FILE DEPTH [ZUNIQ..]".into());
     };
-    let bytes = fs::read(file)?;
-    let counts = take_in(&bytes, depth.parse()?)?;
-    let mut lines = vec![format!("{} rows", counts.len())];
-    for cell in cells {
-        let run = rows::get_overlapped_cells(&bytes, cell.parse()?)?;
-        lines.push(format!("{cell}: {:?}", &counts[run]));
-    }
-    Ok(lines)
+    let bytes = fs::read(file).map_err(|error| format!("{file}: {error}"))?;
+    let depth = depth
+        .parse()
+        .map_err(|error| format!("DEPTH {depth}: {error}"))?;
+    let counts = take_in(&bytes, depth)?;
+    let rows = Ok(format!("{} rows", counts.len()));
+    let found = cells.iter().map(|cell| match look_up(&bytes, cell) {
+        Ok(run) => Ok(format!("{cell}: {:?}", &counts[run])),
+        Err(error) => Err(format!("{cell}: {error}").into()),
+    });
+    Ok([rows].into_iter().chain(found).collect())
+}
+
+/// The rows of the entries that overlap a cell.
+fn look_up(bytes: &[u8], cell: &str) -> Result<Range<usize>, Box<dyn Error>> {
+    Ok(rows::get_overlapped_cells(bytes, cell.parse()?)?)
 }
 
 /// The counts of a valid map, row by row.
 fn take_in(bytes: &[u8], depth: u8) -> Result<Vec<u32>, Box<dyn Error>> {
     if let MapCheck::Faulty { place, fault } = rows::check_is_mom(depth, bytes)? {
-        return Err(format!("row {place}: {fault:?}").into());
+        return Err(format!("row {place} is {fault}").into());
     }
     // The check took the bytes, so they are whole rows, and not many.
     let number = bytes.len() / rows::COUNT_ROW;
@@ -62,9 +77,11 @@ mod tests {
         file.into_os_string().into_string().unwrap()
     }
 
-    fn answers(arguments: &[&str]) -> Result<Vec<String>, String> {
+    fn answers(arguments: &[&str]) -> Result<Vec<Result<String, String>>, String> {
         let arguments: Vec<String> = arguments.iter().map(|word| word.to_string()).collect();
-        ingest(&arguments).map_err(|error| error.to_string())
+        let told = |error: Box<dyn Error>| error.to_string();
+        let lines = ingest(&arguments).map_err(told)?.into_iter();
+        Ok(lines.map(|line| line.map_err(told)).collect())
     }
 
     #[test]
@@ -80,7 +97,22 @@ mod tests {
             "216172782113783808: [3]",
             "1: [10]",
         ];
-        assert_eq!(answer, Ok(lines.map(String::from).to_vec()));
+        assert_eq!(answer, Ok(lines.map(|line| Ok(line.into())).to_vec()));
+    }
+
+    #[test]
+    fn no_refused_cell_goes_unnamed_or_hides_the_others() {
+        let file = file_of("ingest-refused", &[1, 3], &[10, 3]);
+        let lines = answers(&[&file, "29", "2", "3", "x", "1"]).unwrap();
+        fs::remove_file(&file).unwrap();
+        let refused = Err(
+            "2: refused by 12 at place 0: the query is not a valid zuniq, \
+                           or in containing not at the map's depth"
+                .into(),
+        );
+        let unreadable = Err("x: invalid digit found in string".into());
+        let [rows, three, one] = ["2 rows", "3: [3]", "1: [10]"].map(|line| Ok(line.into()));
+        assert_eq!(lines, [rows, refused, three, unreadable, one]);
     }
 
     #[test]
@@ -88,7 +120,9 @@ mod tests {
         let file = file_of("ingest-rows", &[3, 1], &[10, 3]);
         let (falling, deep) = (answers(&[&file, "29"]), answers(&[&file, "30"]));
         fs::remove_file(&file).unwrap();
-        assert_eq!(falling, Err("row 1: NotAbove".into()));
-        assert_eq!(deep, Err("refused by 1 at place 0".into()));
+        assert_eq!(falling, Err("row 1 is not above the entry before".into()));
+        let words = "refused by 1 at place 0: the depth is over 29, or is 0 in an add call, \
+                     or a merger's parent depth is over 28";
+        assert_eq!(deep, Err(words.into()));
     }
 }

@@ -5,14 +5,14 @@
 //! into one of their parent. A map of a depth is given by its zuniqs: it is valid where each is a
 //! valid zuniq, none is of a deeper cell, they rise strictly and no two of their cells overlap. In
 //! [`rows`] it comes as bytes.
-//! Nothing here panics, whatever the arguments: a call that can't be answered is refused, with the
-//! number and the place of the scope's table.
+//! Nothing here panics, whatever the arguments: a call that can't be answered is refused, and a
+//! [`Refusal`] says in words why, and has the number and the place of the scope's table.
 //!
 //! ```
 //! let zuniq = mom::to_zuniq(1, 3).unwrap();
 //! assert_eq!(zuniq, 504403158265495552);
 //! assert_eq!(mom::from_zuniq(zuniq), Some((1, 3)));
-//! assert_eq!(mom::to_zuniq(1, 48), Err(mom::Refusal { number: 7, place: 0 }));
+//! assert_eq!(mom::to_zuniq(1, 48), Err(mom::Refusal::HashOutOfRange(0)));
 //!
 //! let merge = |chi2_threshold| mom::chi2_count_merger(0, 0, chi2_threshold, [1, 2, 4, 4]).unwrap();
 //! assert_eq!(merge(3.5), mom::CountMerge::Merged(11));
@@ -21,26 +21,13 @@
 
 mod combining;
 mod raw;
+mod refusal;
 pub mod rows;
 
-use std::{error::Error, fmt};
+use std::fmt;
 
 pub use combining::{pool, product, Map};
-
-/// A call that was refused: which of the scope's refusals, and where, counted from 0.
-#[derive(Clone, Copy, Debug, PartialEq, Eq, Hash)]
-pub struct Refusal {
-    pub number: u8,
-    pub place: u64,
-}
-
-impl fmt::Display for Refusal {
-    fn fmt(&self, f: &mut fmt::Formatter<'_>) -> fmt::Result {
-        write!(f, "refused by {} at place {}", self.number, self.place)
-    }
-}
-
-impl Error for Refusal {}
+pub use refusal::Refusal;
 
 /// What becomes of four counts: their parent's count, or that they are kept, with their chi-square.
 #[derive(Clone, Copy, Debug, PartialEq)]
@@ -68,6 +55,17 @@ pub enum Fault {
     NotAbove,
     /// Its cell overlaps that of the entry before it.
     Overlapping,
+}
+
+impl fmt::Display for Fault {
+    fn fmt(&self, f: &mut fmt::Formatter<'_>) -> fmt::Result {
+        f.write_str(match self {
+            Fault::NotAZuniq => "not a zuniq",
+            Fault::TooDeep => "deeper than the map",
+            Fault::NotAbove => "not above the entry before",
+            Fault::Overlapping => "overlapping the entry before",
+        })
+    }
 }
 
 /// What the map check finds: that the map is valid, or its first faulty place.

@@ -179,14 +179,16 @@ fn unpack(word: u64) -> Answer {
     let place = word & (u64::MAX >> 8);
     match number {
         0 => Answer::Accepted(place),
-        1..=64 => Answer::Refused(Refusal { number, place }),
         NONE => Answer::None,
         KEPT => Answer::Kept,
         NOT_A_ZUNIQ => Answer::Faulty(place, Fault::NotAZuniq),
         TOO_DEEP => Answer::Faulty(place, Fault::TooDeep),
         NOT_ABOVE => Answer::Faulty(place, Fault::NotAbove),
         OVERLAPPING => Answer::Faulty(place, Fault::Overlapping),
-        _ => unknown(word),
+        _ => match Refusal::of(number, place as usize) {
+            Some(refusal) => Answer::Refused(refusal),
+            None => unknown(word),
+        },
     }
 }
 
@@ -480,12 +482,12 @@ mod tests {
     fn no_part_of_a_word_is_lost() {
         let widest = u64::MAX >> 8;
         assert_eq!(unpack(widest), Answer::Accepted(widest));
-        for number in [1, 64] {
-            let refusal = Refusal {
-                number,
-                place: widest,
-            };
-            assert_eq!(unpack(refused(number, widest)), Answer::Refused(refusal));
+        for (word, refusal) in [
+            (refused(1, 0), Refusal::DepthOutOfRange),
+            (refused(5, widest), Refusal::InvalidMap(widest as usize)),
+            (refused(12, widest), Refusal::InvalidQuery(widest as usize)),
+        ] {
+            assert_eq!(unpack(word), Answer::Refused(refusal));
         }
         assert_eq!(unpack(refused(NONE, 0)), Answer::None);
         assert_eq!(unpack(refused(KEPT, 0)), Answer::Kept);
@@ -509,6 +511,12 @@ mod tests {
     #[should_panic(expected = "mom.h doesn't allow")]
     fn an_unknown_code_is_not_taken_for_an_answer() {
         unpack(refused(71, 0));
+    }
+
+    #[test]
+    #[should_panic(expected = "mom.h doesn't allow")]
+    fn an_unknown_number_is_not_taken_for_a_refusal() {
+        unpack(refused(13, 0));
     }
 
     #[test]

@@ -150,10 +150,10 @@ impl Call {
     }
 }
 
-fn assert_refused(number: u8, place: u64, change: impl FnOnce(&mut Call)) {
+fn assert_refused(number: u8, place: usize, change: impl FnOnce(&mut Call)) {
     let mut call = Call::new();
     change(&mut call);
-    assert_eq!(call.answer(), Err(Refusal { number, place }));
+    assert_eq!(call.answer(), Err(Refusal::of(number, place).unwrap()));
 }
 
 /// −0 and what stands behind the entries refuse nothing.
@@ -199,10 +199,10 @@ fn no_bad_entry_and_no_bad_cell_is_accepted() {
     assert_refused(8, 1, |call| call.hashes[1] = 2);
     for bad in BAD {
         for place in 0..2 {
-            assert_refused(6, place, |call| call.densities[place as usize] = bad);
+            assert_refused(6, place, |call| call.densities[place] = bad);
         }
         for place in 0..3 {
-            assert_refused(9, place, |call| call.batch[place as usize] = bad);
+            assert_refused(9, place, |call| call.batch[place] = bad);
         }
     }
 }

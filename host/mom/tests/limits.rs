@@ -16,8 +16,8 @@ const NANS: [u64; 4] = [
     0xffff_ffff_ffff_ffff,
 ];
 
-fn refusal<T>(number: u8, place: u64) -> Result<T, Refusal> {
-    Err(Refusal { number, place })
+fn refusal<T>(number: u8, place: usize) -> Result<T, Refusal> {
+    Err(Refusal::of(number, place).unwrap())
 }
 
 #[test]
@@ -176,17 +176,20 @@ fn no_invalid_density_is_taken_and_none_hides_an_earlier_one() {
                 assert!(chi2_density_merger(0, m, t, densities).is_ok());
                 densities[child] = faulty;
                 let alone = chi2_density_merger(0, m, t, densities);
-                assert_eq!(alone, refusal(9, child as u64), "{densities:?}");
+                assert_eq!(alone, refusal(9, child), "{densities:?}");
                 densities[child..].fill(faulty);
                 let first = chi2_density_merger(0, m, t, densities);
-                assert_eq!(first, refusal(9, child as u64), "{densities:?}");
+                assert_eq!(first, refusal(9, child), "{densities:?}");
             }
         }
     }
 }
 
 #[test]
-fn a_refusal_says_its_number_and_place() {
+fn a_refusal_says_its_number_its_place_and_why() {
     let refusal = are_overlapping(1, 0).unwrap_err();
-    assert_eq!(refusal.to_string(), "refused by 12 at place 1");
+    assert_eq!((refusal.number(), refusal.place()), (12, 1));
+    let words = "refused by 12 at place 1: the query is not a valid zuniq, \
+                 or in containing not at the map's depth";
+    assert_eq!(refusal.to_string(), words);
 }

@@ -97,8 +97,8 @@ fn assert_shown(depth: u8, map: &[u64], query: Cell) {
     }
 }
 
-fn refusal<T>(number: u8, place: u64) -> Result<T, Refusal> {
-    Err(Refusal { number, place })
+fn refusal<T>(number: u8, place: usize) -> Result<T, Refusal> {
+    Err(Refusal::of(number, place).unwrap())
 }
 
 /// All cells of these depths that lie in these base cells.

@@ -51,10 +51,7 @@ fn pooled(l: &Owned, r: &Owned, m: u8, t: f64, places: usize) -> Result<Vec<Entr
     Ok((0..entries).map(entry).collect())
 }
 
-const NO_SPACE: Refusal = Refusal {
-    number: 11,
-    place: 0,
-};
+const NO_SPACE: Refusal = Refusal::NoSpace;
 
 /// The pool of both orders, of `cells` cells before merging: into just as many places, into more, and
 /// into one fewer.
@@ -181,8 +178,8 @@ fn changed(change: impl FnOnce(&mut Call)) -> Result<Added, Refusal> {
     call.answer()
 }
 
-fn assert_refused(number: u8, place: u64, change: impl FnOnce(&mut Call)) {
-    assert_eq!(changed(change), Err(Refusal { number, place }));
+fn assert_refused(number: u8, place: usize, change: impl FnOnce(&mut Call)) {
+    assert_eq!(changed(change), Err(Refusal::of(number, place).unwrap()));
 }
 
 #[test]
@@ -221,7 +218,7 @@ fn no_bad_setting_and_no_bad_length_is_accepted() {
 fn no_map_that_is_none_is_accepted() {
     let first = 1 << 56;
     for (place, entry) in [(0, 0), (0, 2), (1, 1 << 58), (1, first), (1, 2), (1, 1)] {
-        assert_refused(5, place, |call| call.left.zuniqs[place as usize] = entry);
+        assert_refused(5, place, |call| call.left.zuniqs[place] = entry);
     }
     for (place, entry) in [
         (0, 0),
@@ -231,7 +228,7 @@ fn no_map_that_is_none_is_accepted() {
         (2, 2),
         (2, 1),
     ] {
-        assert_refused(5, place, |call| call.right.zuniqs[place as usize] = entry);
+        assert_refused(5, place, |call| call.right.zuniqs[place] = entry);
     }
     // Of depth 1 in a map of depth 0.
     assert_refused(5, 0, |call| call.right.depth = 0);

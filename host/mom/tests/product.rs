@@ -83,8 +83,7 @@ fn assert_product(l: &Owned, r: &Owned, t: f64, k: f64, cells: usize, entries: &
         assert_eq!(call(places).answer().as_ref(), Ok(&entries), "{l:?} {r:?}");
     }
     if cells > 0 {
-        let (number, place) = (11, 0);
-        assert_eq!(call(cells - 1).answer(), Err(Refusal { number, place }));
+        assert_eq!(call(cells - 1).answer(), Err(Refusal::NoSpace));
     }
 }
 
@@ -148,8 +147,8 @@ fn changed(change: impl FnOnce(&mut Call)) -> Result<usize, Refusal> {
     call.answer().map(|entries| entries.len())
 }
 
-fn assert_refused(number: u8, place: u64, change: impl FnOnce(&mut Call)) {
-    assert_eq!(changed(change), Err(Refusal { number, place }));
+fn assert_refused(number: u8, place: usize, change: impl FnOnce(&mut Call)) {
+    assert_eq!(changed(change), Err(Refusal::of(number, place).unwrap()));
 }
 
 const BAD: [f64; 5] = [
@@ -185,15 +184,15 @@ fn no_bad_setting_and_no_bad_length_is_accepted() {
 #[test]
 fn no_map_that_is_none_and_no_bad_density_is_accepted() {
     for place in 0..2 {
-        assert_refused(5, place, |call| call.left.zuniqs[place as usize] = 2);
+        assert_refused(5, place, |call| call.left.zuniqs[place] = 2);
         for bad in BAD {
-            assert_refused(6, place, |call| call.left.densities[place as usize] = bad);
+            assert_refused(6, place, |call| call.left.densities[place] = bad);
         }
     }
     for place in 0..3 {
-        assert_refused(5, place, |call| call.right.zuniqs[place as usize] = 2);
+        assert_refused(5, place, |call| call.right.zuniqs[place] = 2);
         for bad in BAD {
-            assert_refused(6, place, |call| call.right.densities[place as usize] = bad);
+            assert_refused(6, place, |call| call.right.densities[place] = bad);
         }
     }
     assert_refused(5, 0, |call| call.right.depth = 0);

@@ -38,7 +38,7 @@ const COUNTS: [u32; 12] = [
 ];
 
 fn refused<T>(number: u8) -> Result<T, Refusal> {
-    Err(Refusal { number, place: 0 })
+    Err(Refusal::of(number, 0).unwrap())
 }
 
 /// "u64 zuniq, then u32 count or f64 density, little-endian."

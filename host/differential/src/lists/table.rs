@@ -23,8 +23,7 @@ impl<V: Value> Arguments<'_, V> {
                 .or_else(|| V::overflow(held, self.batch).map(|place| (10, place)))
                 .or_else(|| (self.held + self.hashes.len() > self.zuniqs.len()).then_some((11, 0)))
         })?;
-        let place = place as u64;
-        Some(Refusal { number, place })
+        Some(Refusal::of(number, place).unwrap())
     }
 
     /// Rows 1 to 4.

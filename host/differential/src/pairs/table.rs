@@ -48,8 +48,7 @@ impl<V: Combine> Input<V> {
         let (number, place) = refused
             .or_else(|| self.refused_entry())
             .or_else(|| self.refused_kept().map(|number| (number, 0)))?;
-        let place = place as u64;
-        Some(Refusal { number, place })
+        Some(Refusal::of(number, place).unwrap())
     }
 
     /// Rows 1 to 4.

@@ -40,7 +40,7 @@ struct Met(BTreeSet<u8>);
 impl Met {
     fn add<T>(&mut self, answer: &Result<T, Refusal>) {
         self.0
-            .insert(answer.as_ref().err().map_or(0, |refusal| refusal.number));
+            .insert(answer.as_ref().err().map_or(0, |refusal| refusal.number()));
     }
 
     /// Arguments that are all refused alike would test little.

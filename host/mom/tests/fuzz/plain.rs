@@ -10,8 +10,7 @@ type Cell = (u8, u64);
 type Answer<T> = Result<T, Refusal>;
 
 fn refused<T>(number: u8, place: usize) -> Answer<T> {
-    let place = place as u64;
-    Err(Refusal { number, place })
+    Err(Refusal::of(number, place).unwrap())
 }
 
 /// `refused`, where the condition holds.
