@@ -23,11 +23,21 @@
  *
  * What doesn't fit into the word goes through a pointer. A function says when it writes such a
  * number: by a refusal, and by MOM_NONE, it is left as it was. A slice is its pointer and then its
- * length. No pointer may be null, not even that of an empty slice, and what one pointer of a call
- * reaches may not overlap what another does, unless both are const. No function keeps a pointer or
- * has a state, so any number of threads may call. A double is the 64-bit one of IEEE 754.
+ * length in elements. No function keeps a pointer or has a state, so any number of threads may call.
+ * A double is the 64-bit one of IEEE 754.
  *
- * Link with -lmom_c. The archive is made by `rt staticlib mom_c`.
+ * What a caller has to see to, since no function can look at it:
+ *
+ *   - A length is true: so many elements stand behind the pointer and may be read, and written too
+ *     where the pointer isn't const. A pointer to a single number reaches one such number.
+ *   - A pointer is aligned as its type asks for: to 8 bytes for uint64_t, double and size_t, to 4 for
+ *     uint32_t. A uint8_t may stand anywhere, so that rows may begin at any byte of a file in memory.
+ *   - No pointer is null, not even that of an empty slice.
+ *   - What one pointer of a call reaches overlaps nothing that another does, unless both are const.
+ *
+ * Everything else, numbers of any value and buffers with any content, is answered or refused.
+ *
+ * Link with -lmom_c. The archive is made by `rt staticlib mom_c`, for x86-64.
  */
 #ifndef MOM_H
 #define MOM_H
