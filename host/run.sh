@@ -4,40 +4,51 @@
 #
 #     host/run.sh [SECONDS [SEED]]
 #
-# First what is mostly compiling, two at a time: the C header, the crate `mom` and the runs of
-# `mombuild` beside a reading of its rules, a sixth of SECONDS of them on random texts; and the tests
-# of `oracle` and `differential` beside the original Rust, both where its arithmetic wraps (release)
-# and where it panics (checked). Then, alone on all cores, what is measured in time: every C function
-# on random arguments, for about SECONDS of processor time, so half as long on two cores, and the live
-# comparison with the original, for SECONDS in all (60) from SEED (1), half of them for each of the
-# two. The random texts and arguments are drawn from a seed of their own, the same in every run. Last,
-# that the stored answers in crates/replay/stdin are those that the original gives, and that both
-# sides of the benchmark answer alike. Where docs/src or the crates can't be had, the live comparison
-# says `skipped` and why.
+# First what is mostly compiling, two at a time: cargo fmt and clippy, the C header, the crate `mom` and
+# the runs of `mombuild` beside a reading of its rules, a sixth of SECONDS of them on random texts; and
+# the tests of `oracle` and `differential` beside the original Rust, both where its arithmetic wraps
+# (release) and where it panics (checked). Then, alone on all cores, what is measured in time: every C
+# function on random arguments, for about SECONDS of processor time, so half as long on two cores, and
+# the live comparison with the original, for SECONDS in all (60) from SEED (1), half of them for each of
+# the two. The random texts and arguments are drawn from a seed of their own, the same in every run.
+# Last, that the stored answers in crates/replay/stdin are those that the original gives, and that both
+# sides of the benchmark answer alike.
 #
-# The last line is `N passed, M failed`, or `N passed, M failed, K skipped`, over everything that
-# was counted; the status is 0 where M is 0. Every cargo call is offline (.cargo/config.toml).
+# The last line is `N passed, M failed` over everything that was counted; the status is 0 where M is 0.
+# Lines `K skipped: WHAT (WHY)` stand before it, K being the number of tests: where docs/src or the
+# crates can't be had, everything beside the original is skipped, and where cargo has no fmt or clippy,
+# that is. Every cargo call is offline (.cargo/config.toml).
 set -u
 seconds=${1:-60}
 seed=${2:-1}
+if [[ ! $seconds =~ ^[1-9][0-9]*$ ]]; then
+    echo "host/run.sh [SECONDS [SEED]]: SECONDS is a whole number above 0"
+    echo "0 passed, 1 failed"
+    exit 1
+fi
 # Cargo runs a build script in its own directory, so that a relative path would change its meaning.
-[ -z "${ORACLE_DOCS:-}" ] || export ORACLE_DOCS=$(realpath -m "$ORACLE_DOCS")
-[ -z "${MOM_LIB_DIR:-}" ] || export MOM_LIB_DIR=$(realpath -m "$MOM_LIB_DIR")
+[ -z "${ORACLE_DOCS:-}" ] || ORACLE_DOCS=$(realpath -m "$ORACLE_DOCS")
+[ -z "${MOM_LIB_DIR:-}" ] || MOM_LIB_DIR=$(realpath -m "$MOM_LIB_DIR")
 cd "$(dirname "$0")" || exit 1
-passed=0 failed=0 skipped=0
+passed=0 failed=0
 logs=$(mktemp -d) || exit 1
 trap 'rm -rf "$logs"' EXIT
 
 # count NAME STATUS LOG: adds up the lines in which a command counted, `N passed, M failed` or cargo's
 # `N passed; M failed`. One that ended badly without counting a failure (it doesn't compile, say), or
-# that counted nothing at all, is a failure itself.
+# that counted nothing at all, is a failure itself; so is one that didn't count the tests that would be
+# told of it if it were skipped.
 count() {
-    local name=$1 status=$2 good bad
+    local name=$1 status=$2 good bad told
     read -r good bad < <(sed -En 's/.*\b([0-9]+) passed[,;] ([0-9]+) failed.*/\1 \2/p' "$3" |
         awk '{ good += $1; bad += $2 } END { print good + 0, bad + 0 }')
+    told=$(tests_of_part "$name")
     if [ "$bad" = 0 ] && { [ "$status" != 0 ] || [ "$good" = 0 ]; }; then
         echo "$name: status $status, $good passed: counted as failed"
         bad=1
+    elif [ -n "$told" ] && [ $((good + bad)) != "$told" ]; then
+        echo "$name: counted $((good + bad)), where run.sh reckons with $told: counted as failed"
+        bad=$((bad + 1))
     fi
     passed=$((passed + good)) failed=$((failed + bad))
 }
@@ -53,20 +64,55 @@ part() {
 
 # aside NAME COMMAND..: runs a command, and keeps what it says for `report NAME`.
 aside() {
-    local name=$1
+    local log=$logs/${1//\//-}
     shift
-    ("$@") > "$logs/$name" 2>&1
-    echo $? > "$logs/$name.status"
+    ("$@") > "$log" 2>&1
+    echo $? > "$log.status"
 }
 
 # report NAME..: shows what commands said that ran aside, and counts what they counted.
 report() {
-    local name
+    local name log
     for name; do
+        log=$logs/${name//\//-}
         echo "== $name"
-        cat "$logs/$name"
-        count "$name" "$(cat "$logs/$name.status")" "$logs/$name"
+        cat "$log"
+        count "$name" "$(cat "$log.status")" "$log"
     done
+}
+
+# skip WHAT WHY NAME..: tells at the end how many tests these parts would have been.
+skip() {
+    local what=$1 why=$2 name tests=0
+    shift 2
+    for name; do
+        tests=$((tests + $(tests_of_part "$name")))
+    done
+    echo "$tests skipped: $what ($why)" >> "$logs/skipped"
+}
+
+# The tests of a part that may be skipped, read off the sources; nothing for another one.
+tests_of_part() {
+    case $1 in
+    "oracle and differential, "*)
+        cat oracle/tests/*.rs differential/tests/*.rs | grep -c '^ *#\[test\]'
+        ;;
+    "live comparison, "*) grep -c '^ *entry::<' differential/src/kinds/mod.rs ;;
+    "stored answers" | "benchmark, answers only" | "fmt of "* | "clippy of "*) echo 1 ;;
+    esac
+}
+
+# one COMMAND..: a command that is one test.
+one() {
+    "$@" && echo "1 passed, 0 failed"
+}
+
+fmt_of() {
+    cd "../$1" && one cargo fmt --check
+}
+
+clippy_of() {
+    cd "../$1" && one cargo clippy --quiet --all-targets -- -D warnings
 }
 
 c_header() {
@@ -91,8 +137,8 @@ fuzz() {
 }
 
 stored_answers() {
-    ./answers.sh > target/answers && cmp target/answers ../crates/replay/stdin &&
-        echo "1 passed, 0 failed"
+    ./answers.sh > target/answers && [ -s target/answers ] &&
+        one cmp target/answers ../crates/replay/stdin
 }
 
 # The benchmark on small works, once: that both sides answer alike. No time is looked at.
@@ -117,7 +163,26 @@ tests_of() {
 
 comparable=yes
 reason=$(can_compare) || comparable=no
+beside=("oracle and differential, release" "oracle and differential, checked"
+    "live comparison, release" "live comparison, checked" "stored answers" "benchmark, answers only")
+
+# fmt and clippy look at the three workspaces one by one. Clippy has to compile them.
+tidy=()
+for tool in fmt clippy; do
+    parts=("$tool of host/mom" "$tool of host/mombuild" "$tool of host")
+    if ! cargo $tool --version > "$logs/version" 2>&1; then
+        skip "cargo $tool" "it is not on this machine" "${parts[@]}"
+    elif [ $tool = clippy ] && [ $comparable = no ]; then
+        tidy+=("${parts[@]::2}") beside+=("${parts[2]}")
+    else
+        tidy+=("${parts[@]}")
+    fi
+done
+
 {
+    for name in "${tidy[@]}"; do
+        aside "$name" "${name%% *}_of" "${name##* }"
+    done
     aside "C header" c_header
     aside "mom" mom_tests
     aside "mombuild" mombuild_tests
@@ -127,7 +192,7 @@ reason=$(can_compare) || comparable=no
 } &
 [ $comparable = no ] || aside "oracle and differential, release" tests_of release --workspace
 wait
-report "C header" "mom" "mombuild"
+report "${tidy[@]}" "C header" "mom" "mombuild"
 [ $comparable = no ] || report "oracle and differential, release" "oracle and differential, checked"
 part "random arguments" fuzz
 if [ $comparable = yes ]; then
@@ -139,11 +204,9 @@ if [ $comparable = yes ]; then
     part "stored answers" stored_answers
     part "benchmark, answers only" bench_answers
 else
-    echo "live comparison: skipped ($reason)"
-    skipped=1
+    skip "everything beside the original" "$reason" "${beside[@]}"
 fi
 
-summary="$passed passed, $failed failed"
-[ "$skipped" = 0 ] || summary="$summary, $skipped skipped"
-echo "$summary"
+[ ! -f "$logs/skipped" ] || cat "$logs/skipped"
+echo "$passed passed, $failed failed"
 [ "$failed" = 0 ]

@@ -41,6 +41,7 @@ pub struct Plan {
 
 pub enum Limit {
     Cases(u64),
+    /// One block at least, however late it is.
     Until(Instant),
 }
 
@@ -52,7 +53,7 @@ impl Plan {
     fn inputs_of(&self, block: u64) -> u64 {
         match self.limit {
             Limit::Cases(cases) => cases.saturating_sub(block * BLOCK).min(BLOCK),
-            Limit::Until(end) if Instant::now() < end => BLOCK,
+            Limit::Until(end) if block == 0 || Instant::now() < end => BLOCK,
             Limit::Until(_) => 0,
         }
     }
@@ -64,9 +65,27 @@ pub struct Report {
     pub name: &'static str,
     pub small: u64,
     pub random: u64,
+    /// Whether the small inputs are all there are.
+    pub only_small: bool,
     pub differing: u64,
     /// The smallest differing input, with both answers.
     pub smallest: Option<String>,
+}
+
+impl Report {
+    pub fn is_passed(&self) -> bool {
+        self.differing == 0 && !self.lacks_inputs()
+    }
+
+    /// Whether no input was compared, or none of the random ones that there are.
+    fn lacks_inputs(&self) -> bool {
+        let number = if self.only_small {
+            self.small
+        } else {
+            self.random
+        };
+        number == 0
+    }
 }
 
 impl fmt::Display for Report {
@@ -75,6 +94,9 @@ impl fmt::Display for Report {
         let (name, small, random) = (self.name, self.small, self.random);
         write!(f, "{name}: {compared} compared ({small} small ones, ")?;
         write!(f, "{random} random), {} differ", self.differing)?;
+        if self.lacks_inputs() {
+            write!(f, "\n    too few were compared to say anything")?;
+        }
         if let Some(smallest) = &self.smallest {
             write!(f, "\n    the smallest: {smallest}")?;
         }
@@ -92,6 +114,7 @@ pub fn compare<K: Kind>(plan: &Plan) -> Report {
         name: K::NAME,
         small: of_small,
         random: of_random,
+        only_small: K::random(&mut Random::part(plan.seed, 0)).is_none(),
         differing: all.differing,
         smallest: all.smallest.map(|input| describe::<K>(&input)),
     }

@@ -1,14 +1,14 @@
 //! `differential [--seconds S | --cases N] [--seed K] [KIND..]`
 //!
 //! Compares each kind, or those named, on all its small inputs and then on random ones: for S
-//! seconds over all kinds together (60 unless said), or on N of each. Says for each kind how many
-//! were compared, how many differ and the smallest that does. The last line is `N passed, M
-//! failed`, a kind counting one; the status is 1 where M is above 0.
+//! seconds over all kinds together (60 unless said), or on N of each; neither may be 0. Says for each
+//! kind how many were compared, how many differ and the smallest that does. The last line is `N
+//! passed, M failed`, a kind counting one; one of which nothing was compared has failed. The status is
+//! 1 where M is above 0.
 
 use std::{
     env,
     process::ExitCode,
-    str::FromStr,
     time::{Duration, Instant},
 };
 
@@ -37,7 +37,7 @@ fn main() -> ExitCode {
     // A panic is a difference and is told as one.
     std::panic::set_hook(Box::new(|_| {}));
     let reports = compare_all(&options);
-    let failed = reports.iter().filter(|report| report.differing > 0).count();
+    let failed = reports.iter().filter(|report| !report.is_passed()).count();
     println!("{} passed, {failed} failed", reports.len() - failed);
     ExitCode::from(u8::from(failed > 0))
 }
@@ -51,8 +51,8 @@ fn parse(mut arguments: impl Iterator<Item = String>) -> Result<Options, String>
     };
     while let Some(argument) = arguments.next() {
         match argument.as_str() {
-            "--seconds" => options.seconds = number(&argument, arguments.next())?,
-            "--cases" => options.cases = Some(number(&argument, arguments.next())?),
+            "--seconds" => options.seconds = above_0(&argument, arguments.next())?,
+            "--cases" => options.cases = Some(above_0(&argument, arguments.next())?),
             "--seed" => options.seed = number(&argument, arguments.next())?,
             name => options.kinds.push(kind(name)?),
         }
@@ -63,10 +63,18 @@ fn parse(mut arguments: impl Iterator<Item = String>) -> Result<Options, String>
     Ok(options)
 }
 
-fn number<T: FromStr>(option: &str, value: Option<String>) -> Result<T, String> {
+fn number(option: &str, value: Option<String>) -> Result<u64, String> {
     value
         .and_then(|value| value.parse().ok())
         .ok_or(format!("{option} asks for a whole number"))
+}
+
+/// A run that compares nothing would say that nothing differs.
+fn above_0(option: &str, value: Option<String>) -> Result<u64, String> {
+    match number(option, value)? {
+        0 => Err(format!("{option} asks for a number above 0")),
+        number => Ok(number),
+    }
 }
 
 fn kind(name: &str) -> Result<&'static Entry, String> {

@@ -82,6 +82,46 @@ fn no_seed_gives_other_cases_the_next_time() {
     assert_ne!(differing(1), differing(2));
 }
 
+/// A kind without inputs, small or random.
+struct Nothing;
+
+impl Kind for Nothing {
+    const NAME: &'static str = "nothing";
+    type Input = u64;
+    type Answer = u64;
+
+    fn small() -> impl Iterator<Item = u64> {
+        0..0
+    }
+
+    fn random(_: &mut Random) -> Option<u64> {
+        None
+    }
+
+    fn ours(&n: &u64) -> u64 {
+        n
+    }
+
+    fn original(&n: &u64) -> u64 {
+        n
+    }
+}
+
+#[test]
+fn no_kind_passes_of_which_nothing_was_compared() {
+    assert!(!cases::<Nothing>(1_000, 1).is_passed());
+    assert!(!cases::<Squares<NEVER, NEVER>>(0, 1).is_passed());
+    assert!(cases::<Squares<NEVER, NEVER>>(1, 1).is_passed());
+    assert!(!cases::<Squares<0, NEVER>>(1, 1).is_passed());
+}
+
+#[test]
+fn no_kind_goes_without_random_inputs_for_lack_of_time() {
+    let limit = Limit::Until(Instant::now());
+    let report = compare::<Squares<NEVER, NEVER>>(&Plan { seed: 1, limit });
+    assert!(report.random > 0 && report.is_passed());
+}
+
 #[test]
 fn no_run_goes_on_past_its_time() {
     let start = Instant::now();

@@ -25,11 +25,11 @@ pub fn run(plan: Plan) {
     let theirs = std::env::current_exe()
         .unwrap()
         .with_file_name("original_mombuild");
+    assert!(
+        ours.is_file(),
+        "mombuild is not built: `rt check mombuild` makes it"
+    );
     heading("mombuild", "line", "lines");
-    if !ours.exists() {
-        println!("mombuild is not built: `rt check mombuild` makes it");
-        return;
-    }
     let mut random = Random::new(6);
     let mut text = String::from("9,0,7815\n");
     for hash in 0..LINES {
