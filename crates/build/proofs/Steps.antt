@@ -6,7 +6,6 @@ use mathlib.Core.Logic.{inl, inr}
 use mathlib.Core.Option.{Option, none, some, Option·map, Option·none-ne-some}
 use Prim.Native.Nat.{ℕ, zero, suc, _+_, _*_, _/_, _-_, _<_}
 use native.Mathlib.Omega.{arith}
-use native.Mathlib.Nat.{add-zero}
 use lib.ListN.{length}
 use Rattle.zuniq.proofs.Basics.{and-is-true}
 use Rattle.zuniq.proofs.Ranges.{start-first-child, end-last-child}
@@ -91,7 +90,7 @@ module _ {A : Type 0} (accept : Merger A) where
   step-falls K a b s t (stepped d h v0 v1 v2 v3 x r q) f =
       let first = start-first-child K d h (f .0) in
       let last = end-last-child K d h (f .0) in
-      ((omega arith, omega arith, rw (add-zero, first) at (f .2 .2 .2 .2)), sym last)
+      ((omega arith, omega arith, rw first at (f .2 .2 .2 .2)), sym last)
 
   -- ---- collapsing
   stops : (n : ℕ) (s : List (Entry A)) → step accept s ≡ none → collapseUpTo accept n s ≡ s

@@ -7,7 +7,7 @@ use mathlib.Core.Logic.{_⊎_, inl, inr, ⊎-elim, _↔_}
 use mathlib.Core.Option.{Option, none, some, Option·none-ne-some}
 use Prim.Native.Nat.{ℕ, zero, suc, _+_, _*_, _/_, _-_, _^_, _≤_, _<_}
 use native.Mathlib.Omega.{arith}
-use native.Mathlib.Nat.{eq-or-lt-of-le, add-zero, add-suc, sub-zero, div-lt-iff-lt-mul}
+use native.Mathlib.Nat.{eq-or-lt-of-le, add-suc, sub-zero, div-lt-iff-lt-mul}
 use Rattle.zuniq.specs.Cells.{nHash, liesIn, start, end}
 use Rattle.zuniq.proofs.Basics.{four-pow-pos}
 use Rattle.zuniq.proofs.Ranges.{lies-in-iff, lies-in-self, lies-in-same-depth, lies-in-trans, child-lies-in-parent, lies-in-iff-some-child, start-lt-end, start-first-child, end-last-child, end-is-next-start}
@@ -138,7 +138,7 @@ module _ {A : Type 0} (accept : Merger A) (K : ℕ) (l : List (Entry A)) where
   tops-rise zero d h k = itself-rises zero d h [] k (omega (arith, start-lt-end K d h))
   tops-rise (suc n) d h k =
       let next : (i : ℕ) → end K (suc d) (4 * h + i) ≡ start K (suc d) (4 * h + suc i) = λ i. rw add-suc (end-is-next-start K (suc d) (4 * h + i)) in
-      let first : start K (suc d) (4 * h + 0) ≡ start K d h = rw add-zero (start-first-child K d h (omega arith)) in
+      let first = start-first-child K d h (omega arith) in
       let last : start K (suc d) (4 * h + 4) ≡ end K d h = sym (next 3) ∙ end-last-child K d h (omega arith) in
       itself-rises (suc n) d h _ k (rw (first, last) at
       (rises-joined K 4 (λ i. start K (suc d) (4 * h + i)) (λ i. tops accept l n (suc d) (4 * h + i)) (λ i u. rw (next i) at (tops-rise n (suc d) (4 * h + i) (omega arith)))))

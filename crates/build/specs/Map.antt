@@ -3,8 +3,9 @@
 use mathlib.Core.Bool.{Bool, _&&_, cond}
 use mathlib.Core.List.{List, [], _∷_, _++_}
 use mathlib.Core.Option.{Option, none, some}
-use Prim.Native.Nat.{ℕ, zero, suc, _+_, _*_}
+use Prim.Native.Nat.{ℕ, zero, suc}
 use lib.Dec.{eqb}
+use Rattle.zuniq.specs.Cells.{childHash}
 
 -- a cell with its value
 pub record Entry (A : Type 0) : Type 0 where
@@ -58,12 +59,12 @@ module _ {A : Type 0} (accept : Merger A) where
     whole zero d h = listed l d h
     whole (suc n) d h =
         orElse (listed l d h)
-        (merged d h (whole n (suc d) (4 * h + 0)) (whole n (suc d) (4 * h + 1)) (whole n (suc d) (4 * h + 2)) (whole n (suc d) (4 * h + 3)))
+        (merged d h (whole n (suc d) (childHash h 0)) (whole n (suc d) (childHash h 1)) (whole n (suc d) (childHash h 2)) (whole n (suc d) (childHash h 3)))
 
     -- "all whole cells whose parent isn't whole, rising by zuniq", of those in the cell (d, h): itself, or those in its children
     unfoldable pub tops : ℕ → ℕ → ℕ → List (Entry A)
     tops zero d h = itselfOr d h (whole zero d h) []
-    tops (suc n) d h = itselfOr d h (whole (suc n) d h) (joined 4 (λ i. tops n (suc d) (4 * h + i)))
+    tops (suc n) d h = itselfOr d h (whole (suc n) d h) (joined 4 (λ i. tops n (suc d) (childHash h i)))
 
 -- "The map is all whole cells whose parent isn't whole, rising by zuniq. Depth-0 cells have no parent."
 unfoldable pub definedMap : {A : Type 0} → Merger A → ℕ → List (Entry A) → List (Entry A)

@@ -3,15 +3,16 @@
 use mathlib.Core.Bool.{Bool, _&&_, cond}
 use mathlib.Core.List.{List, [], _∷_}
 use mathlib.Core.Option.{Option, none, some, Option·map}
-use Prim.Native.Nat.{ℕ, zero, suc, _+_, _*_, _/_, _-_}
+use Prim.Native.Nat.{ℕ, zero, suc, _/_, _-_}
+use Rattle.zuniq.specs.Cells.{childHash}
 use Rattle.build.specs.Map.{Entry, entry, isCell, Merger}
 
 -- child i of the cell (d, h), with a value
 abbrev pub child : {A : Type 0} → ℕ → ℕ → ℕ → A → Entry A
-child d h i x = entry (suc d) (4 * h + i) x
+child d h i x = entry (suc d) (childHash h i) x
 
 abbrev pub isChild : {A : Type 0} → ℕ → ℕ → ℕ → Entry A → Bool
-isChild d h i e = isCell (suc d) (4 * h + i) e
+isChild d h i e = isCell (suc d) (childHash h i) e
 
 -- the four are children 0 to 3 of the cell (d, h)
 abbrev pub isQuad : {A : Type 0} → ℕ → ℕ → Entry A → Entry A → Entry A → Entry A → Bool

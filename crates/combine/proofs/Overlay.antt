@@ -6,7 +6,7 @@ use mathlib.Core.Logic.{_⊎_, inl, inr, ⊎-elim, ⊎-map, _↔_}
 use mathlib.Core.Option.{Option, none, some}
 use Prim.Native.Nat.{ℕ, zero, suc, _+_, _*_, _/_, _-_, _^_, _≤_, _<_}
 use native.Mathlib.Omega.{arith}
-use native.Mathlib.Nat.{eq-or-lt-of-le, add-zero, add-suc, sub-zero}
+use native.Mathlib.Nat.{eq-or-lt-of-le, add-suc, sub-zero}
 use lib.ListN.{length}
 use Rattle.zuniq.specs.Cells.{nHash, liesIn, start, end}
 use Rattle.zuniq.proofs.Basics.{and-is-true}
@@ -35,7 +35,7 @@ module _ {B : Type 0} (K : ℕ) where
   pub rises-children : (d h : ℕ) (g : ℕ → List (Entry B)) → d < K → ((i : ℕ) → i < 4 → Rises K (start K (suc d) (4 * h + i)) (end K (suc d) (4 * h + i)) (g i)) → Rises K (start K d h) (end K d h) (joined 4 g)
   rises-children d h g u r =
       let next : (i : ℕ) → end K (suc d) (4 * h + i) ≡ start K (suc d) (4 * h + suc i) = λ i. rw add-suc (end-is-next-start K (suc d) (4 * h + i)) in
-      let first : start K (suc d) (4 * h + 0) ≡ start K d h = rw add-zero (start-first-child K d h u) in
+      let first = start-first-child K d h u in
       let last : start K (suc d) (4 * h + 4) ≡ end K d h = sym (next 3) ∙ end-last-child K d h u in
       rw (first, last) at (rises-joined K 4 (λ i. start K (suc d) (4 * h + i)) g (λ i v. rw (next i) at (r i v)))
 

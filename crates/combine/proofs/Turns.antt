@@ -7,7 +7,7 @@ use mathlib.Core.Logic.{_⊎_, inl, inr, ⊎-elim, ⊎-map}
 use mathlib.Core.Option.{Option, none, some}
 use Prim.Native.Nat.{ℕ, zero, suc, _+_, _*_, _/_, _%_, _-_, _^_, _≤_, _<_}
 use native.Mathlib.Omega.{arith}
-use native.Mathlib.Nat.{eq-or-lt-of-le, add-zero, pow-suc, div-one, div-div-eq-div-mul, mul-comm}
+use native.Mathlib.Nat.{eq-or-lt-of-le, pow-suc, div-one, div-div-eq-div-mul, mul-comm}
 use Rattle.zuniq.specs.Cells.{nHash, liesIn, overlap, start, end}
 use Rattle.zuniq.proofs.Basics.{le-or-lt}
 use Rattle.zuniq.proofs.Ranges.{lies-in-iff, lies-in-self, lies-in-same-depth, lies-in-trans, overlap-iff-lies-in, overlap-sym, overlap-iff-meets, apart-iff-end-le-start, lies-in-within, child-lies-in-parent, lies-in-child-iff, lies-in-iff-some-child, start-first-child, end-child-is-next-start, end-last-child}
@@ -180,7 +180,7 @@ module _ {A : Type 0} (split : Split A) where
     rises-open a b e l u r =
         let d = e .depth in
         let h = e .hash in
-        let first : start K (suc d) (4 * h + 0) ≡ start K d h = rw add-zero (start-first-child K d h u) in
+        let first = start-first-child K d h u in
         let next : (i : ℕ) → end K (suc d) (4 * h + i) ≤ start K (suc d) (4 * h + (i + 1)) = λ i. omega (arith, end-child-is-next-start K d h i) in
         (u, omega (arith, r .1), (u, next 0, (u, next 1, (u, next 2, rw (end-last-child K d h u) (r .2)))))
 

@@ -3,8 +3,8 @@
 use mathlib.Core.Bool.{Bool, false, _&&_, _||_, not, cond}
 use mathlib.Core.List.{List, [], _∷_}
 use mathlib.Core.Option.{Option, none, some}
-use Prim.Native.Nat.{ℕ, zero, suc, _+_, _*_, _/_, _%_, _-_}
-use Rattle.zuniq.specs.Cells.{liesIn, overlap}
+use Prim.Native.Nat.{ℕ, zero, suc, _/_, _%_, _-_}
+use Rattle.zuniq.specs.Cells.{childHash, liesIn, overlap}
 use Rattle.build.specs.Map.{Entry, itselfOr, joined}
 
 -- "Each overlay cell is seen by the rule as left only, right only or both": with the values that it has from them. An overlay
@@ -54,7 +54,7 @@ module _ {A : Type 0} (split : Split A) where
     unfoldable pub overlayIn : ℕ → ℕ → ℕ → List (Entry (Seen A))
     overlayIn zero d h = cond (fits l d h && fits r d h) (itselfOr d h (seenAt d h) []) []
     overlayIn (suc n) d h =
-        let inside = joined 4 (λ i. overlayIn n (suc d) (4 * h + i)) in
+        let inside = joined 4 (λ i. overlayIn n (suc d) (childHash h i)) in
         cond (fits l d h && fits r d h) (itselfOr d h (seenAt d h) []) inside
 
 -- "The overlay of two maps"

@@ -13,7 +13,7 @@ use native.Mathlib.Numerals.{add-one}
 use native.Mathlib.Omega.{arith, by-contra}
 use lib.Dec.{leb, eqb}
 use borrow.Author.Tests.{le-leb, lt-leb, eq-eqb, leb-true, eqb-true}
-use Rattle.zuniq.specs.Cells.{nHash, liesIn, overlap, start, end}
+use Rattle.zuniq.specs.Cells.{nHash, childHash, liesIn, overlap, start, end}
 use Rattle.zuniq.specs.Codec.{zuniq}
 use Rattle.zuniq.proofs.Basics.{and-is-true, or-is-true, is-false, le-or-lt, four-pow-pos, four-pow-split, eqb-sym}
 
@@ -79,7 +79,7 @@ overlap-same-depth d h g t = ⊎-elim (lies-in-same-depth d h g) (λ u. sym (lie
 
 -- ---- children
 -- A depth has the children of a cell exactly if the depth above has the cell.
-pub child-valid-iff : (d h i : ℕ) → i < 4 → (4 * h + i < nHash (suc d)) ↔ (h < nHash d)
+pub child-valid-iff : (d h i : ℕ) → i < 4 → (childHash h i < nHash (suc d)) ↔ (h < nHash d)
 unfolding nHash
 child-valid-iff d h i l = rw pow-suc (λ u. omega arith, λ u. omega arith)
 
@@ -90,32 +90,32 @@ lies-in-parent-iff d g h =
     (λ t. rw z at (lies-in-iff (suc d) g d h .0 t .1), λ q. lies-in-iff (suc d) g d h .1 (omega arith, rw z q))
 
 -- A child lies in its parent.
-pub child-lies-in-parent : (d h i : ℕ) → i < 4 → liesIn (suc d) (4 * h + i) d h ≡ true
-child-lies-in-parent d h i l = lies-in-parent-iff d (4 * h + i) h .1 (omega arith)
+pub child-lies-in-parent : (d h i : ℕ) → i < 4 → liesIn (suc d) (childHash h i) d h ≡ true
+child-lies-in-parent d h i l = lies-in-parent-iff d (childHash h i) h .1 (omega arith)
 
 -- A deeper cell lies in child i of (d, h) exactly if it lies in (d, h) and i is the last base-4 digit of the hash of its
 -- ancestor of the children's depth: so it lies in no other child.
 pub lies-in-child-iff : (e g d h i : ℕ) → d < e → i < 4
-    → (liesIn e g (suc d) (4 * h + i) ≡ true) ↔ ((liesIn e g d h ≡ true) × (g / 4 ^ (e - suc d) % 4 ≡ i))
+    → (liesIn e g (suc d) (childHash h i) ≡ true) ↔ ((liesIn e g d h ≡ true) × (g / 4 ^ (e - suc d) % 4 ≡ i))
 lies-in-child-iff e g d h i m l =
     let a = g / 4 ^ (e - suc d) in
     let up = lies-in-through e g (suc d) a d h (lies-in-iff e g (suc d) a .1 (m, refl)) (omega arith) in
-    let child = lies-in-iff e g (suc d) (4 * h + i) in (
-      λ t. let q : a ≡ 4 * h + i = child .0 t .1 in (up ∙ lies-in-parent-iff d a h .1 (omega arith), omega arith),
+    let child = lies-in-iff e g (suc d) (childHash h i) in (
+      λ t. let q : a ≡ childHash h i = child .0 t .1 in (up ∙ lies-in-parent-iff d a h .1 (omega arith), omega arith),
       λ p. let q : a / 4 ≡ h = lies-in-parent-iff d a h .0 (sym up ∙ p .0) in child .1 (m, omega arith),
     )
 
 -- A deeper cell lies in (d, h) exactly if it lies in one of the four children.
 pub lies-in-iff-some-child : (e g d h : ℕ) → d < e
-    → (liesIn e g d h ≡ true) ↔ ((i : ℕ) × (i < 4) × (liesIn e g (suc d) (4 * h + i) ≡ true))
+    → (liesIn e g d h ≡ true) ↔ ((i : ℕ) × (i < 4) × (liesIn e g (suc d) (childHash h i) ≡ true))
 lies-in-iff-some-child e g d h m = (
   λ t. let l : g / 4 ^ (e - suc d) % 4 < 4 = omega arith in (_, l, lies-in-child-iff e g d h _ m l .1 (t, refl)),
   λ c. lies-in-child-iff e g d h (c .0) m (c .1) .0 (c .2) .0,
 )
 
 -- Two different children of one parent do not overlap.
-pub siblings-apart : (d h i j : ℕ) → i ≢ j → overlap (suc d) (4 * h + i) (suc d) (4 * h + j) ≡ false
-siblings-apart d h i j n = is-false _ (λ t. let q = overlap-same-depth (suc d) (4 * h + i) (4 * h + j) t in n (omega arith))
+pub siblings-apart : (d h i j : ℕ) → i ≢ j → overlap (suc d) (childHash h i) (suc d) (childHash h j) ≡ false
+siblings-apart d h i j n = is-false _ (λ t. let q = overlap-same-depth (suc d) (childHash h i) (childHash h j) t in n (omega arith))
 
 module _ (K : ℕ) where
   -- ---- ranges
@@ -230,17 +230,17 @@ module _ (K : ℕ) where
 
   -- ---- the ranges of children
   -- The first child starts where its parent does.
-  pub start-first-child : (d h : ℕ) → d < K → start K (suc d) (4 * h) ≡ start K d h
+  pub start-first-child : (d h : ℕ) → d < K → start K (suc d) (childHash h 0) ≡ start K d h
   unfolding start
   start-first-child d h m = rw (four-pow-split (K - d) 1 (K - suc d) (omega arith)) (omega arith)
 
   -- A child ends where the next one starts.
-  pub end-child-is-next-start : (d h i : ℕ) → end K (suc d) (4 * h + i) ≡ start K (suc d) (4 * h + (i + 1))
+  pub end-child-is-next-start : (d h i : ℕ) → end K (suc d) (childHash h i) ≡ start K (suc d) (childHash h (i + 1))
   unfolding start end
   end-child-is-next-start d h i = omega arith
 
   -- The last child ends where its parent does.
-  pub end-last-child : (d h : ℕ) → d < K → end K (suc d) (4 * h + 3) ≡ end K d h
+  pub end-last-child : (d h : ℕ) → d < K → end K (suc d) (childHash h 3) ≡ end K d h
   unfolding end
   end-last-child d h m = rw (four-pow-split (K - d) 1 (K - suc d) (omega arith)) (omega arith)
 

@@ -7,6 +7,10 @@ use lib.Dec.{eqb, leb}
 unfoldable pub nHash : ℕ → ℕ
 nHash d = 12 * 4 ^ d
 
+-- "Children of (d, h) are (d+1, 4h) to (d+1, 4h+3)": the hash of child i
+abbrev pub childHash : ℕ → ℕ → ℕ
+childHash h i = 4 * h + i
+
 -- "(d, h) lies in (e, g) if d ≥ e and floor(h / 4^(d−e)) = g"
 unfoldable pub liesIn : ℕ → ℕ → ℕ → ℕ → Bool
 liesIn d h e g = leb e d && eqb (h / 4 ^ (d - e)) g
