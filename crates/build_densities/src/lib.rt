@@ -28,9 +28,7 @@ use build::free::put_density;
 use build::free::put_zuniq;
 use merger::DensityMerge;
 use merger::invalid_density;
-use merger::merge_densities;
 use merger::merge_densities_with;
-use merger::unit_density;
 use refusal::Refusal;
 use zuniq::Zuniq64;
 use zuniq::n_hash_unchecked;
@@ -366,7 +364,8 @@ fn merge_last(
     requires { ⌜ (4 ≤ n) × (n ≤ length (now densities)) × («parent_depth» ≤ 29) ⌝ }
     ensures { λ r. ⌜ r ≡ mergeDensities «depth_threshold» «chi2_threshold» «parent_depth» «parent_hash» (getD (now (densities .entry)) (n - 4) nan) (getD (now (densities .entry)) (n - 3) nan) (getD (now (densities .entry)) (n - 2) nan) last ⌝ }
 {
-    merge_densities(
+    merge_densities_with(
+        unit_density(parent_depth),
         parent_depth,
         parent_hash,
         depth_threshold,
@@ -376,6 +375,14 @@ fn merge_last(
         densities[n - 2],
         last,
     )
+}
+
+// c at a parent depth.
+fn unit_density(parent_depth: u8) -> f64
+    requires { ⌜ «parent_depth» ≤ 29 ⌝ }
+    ensures { λ r. ⌜ r ≡ unitDensity «parent_depth» ⌝ }
+{
+    merger::unit_density(n_hash_unchecked(parent_depth))
 }
 
 // Row 6.

@@ -11,7 +11,7 @@ use lib.Ieee.{Float, lt}
 use borrow.Author.Tests.{le-leb, lt-leb, leb-true}
 use Rattle.zuniq.proofs.Basics.{and-is-true}
 use Rattle.merger.specs.Floats.{_⊘_, 4·0}
-use Rattle.merger.specs.Merge.{merges, sumOf, chiOfCounts, mergeCounts, mergedCount, acceptCounts, chiOfDensities, mergeDensities, mergedDensity, acceptDensities}
+use Rattle.merger.specs.Merge.{merges, sumOf, chiOfCounts, mergeCounts, mergedCount, acceptCounts, chiOfDensities, mergeDensitiesWith, mergeDensities, mergedDensity, acceptDensities}
 use Rattle.merger.specs.declared.CountMerge.{CountMerge}
 use Rattle.merger.specs.declared.DensityMerge.{DensityMerge}
 use Rattle.merger.proofs.Floats.{lt-self}
@@ -119,7 +119,7 @@ module _ (M : ℕ) (T : Float) (p h : ℕ) (m0 m1 m2 m3 : Float) where
   reject-densities-iff-kept = kept-densities-iff (mergeDensities M T p h m0 m1 m2 m3)
 
   accept-densities-is : acceptDensities M T p h m0 m1 m2 m3 ≡ cond (merges M T p (chiOfDensities p m0 m1 m2 m3)) (some (sumOf m0 m1 m2 m3 ⊘ 4·0)) none
-  unfolding acceptDensities mergeDensities mergedDensity
+  unfolding acceptDensities mergeDensitiesWith mergedDensity
   accept-densities-is = of-choice mergedDensity (merges M T p (chiOfDensities p m0 m1 m2 m3)) (DensityMerge.Merged (sumOf m0 m1 m2 m3 ⊘ 4·0)) (DensityMerge.Kept (chiOfDensities p m0 m1 m2 m3))
 
   -- Densities are accepted exactly if the parent depth is at least M and chi is below T, and then as a quarter of their sum.

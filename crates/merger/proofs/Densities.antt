@@ -16,7 +16,7 @@ use lib.Ieee.Order.{round-mono}
 use lib.Ieee.Scale.{finite}
 use Rattle.zuniq.specs.Cells.{nHash}
 use Rattle.merger.specs.Floats.{_⊕_, _⊖_, _⊘_, float, 4·0, invalidDensity}
-use Rattle.merger.specs.Merge.{sumOf, unitDensity, chiOfDensities, acceptDensities}
+use Rattle.merger.specs.Merge.{sumOf, unitDensity, chiOfDensitiesWith, chiOfDensities, acceptDensities}
 use Rattle.merger.proofs.Floats.{HasSign, round-sign, round-zero, plus-over}
 use Rattle.merger.proofs.Accept.{accept-densities-iff}
 
@@ -159,7 +159,7 @@ unit-density-plus p = plus-over (float (nHash p)) _ _ refl (round-sign binary64 
 
 -- So chi is below no T where the sum is infinite.
 infinite-sum-kept : (p : ℕ) (T m0 m1 m2 m3 : Float) → sumOf m0 m1 m2 m3 ≡ inf false → lt (chiOfDensities p m0 m1 m2 m3) T ≡ false
-unfolding chiOfDensities
+unfolding chiOfDensitiesWith
 infinite-sum-kept p T m0 m1 m2 m3 e =
     rw e (too-high-not-below _ T (too-high-over _ (unitDensity p) (infinite-less _) (unit-density-plus p)))
 

@@ -66,16 +66,21 @@ unfoldable pub unitDensity : (p : ℕ) → Float
 unitDensity p = float (nHash p) ⊘ π
 
 -- "w uses 1/max(m, c) in place of 1/n; chi = (sum − 4×(4/w))/c"
-unfoldable pub chiOfDensities : (p : ℕ) (m0 m1 m2 m3 : Float) → Float
-chiOfDensities p m0 m1 m2 m3 =
-    let c = unitDensity p in
-    excess (sumOf m0 m1 m2 m3) (wOf (max m0 c) (max m1 c) (max m2 c) (max m3 c)) ⊘ c
+unfoldable pub chiOfDensitiesWith : (c m0 m1 m2 m3 : Float) → Float
+chiOfDensitiesWith c m0 m1 m2 m3 = excess (sumOf m0 m1 m2 m3) (wOf (max m0 c) (max m1 c) (max m2 c) (max m3 c)) ⊘ c
 
 -- "parent density sum/4"; "The merger answers either the merged density or that the four are kept, carrying the chi it found"
-unfoldable pub mergeDensities : (M : ℕ) (T : Float) (p h : ℕ) (m0 m1 m2 m3 : Float) → DensityMerge
-mergeDensities M T p h m0 m1 m2 m3 =
-    let chi = chiOfDensities p m0 m1 m2 m3 in
+unfoldable pub mergeDensitiesWith : (c : Float) (M : ℕ) (T : Float) (p h : ℕ) (m0 m1 m2 m3 : Float) → DensityMerge
+mergeDensitiesWith c M T p h m0 m1 m2 m3 =
+    let chi = chiOfDensitiesWith c m0 m1 m2 m3 in
     cond (merges M T p chi) (DensityMerge.Merged (sumOf m0 m1 m2 m3 ⊘ 4·0)) (DensityMerge.Kept chi)
+
+-- "Densities at parent depth p: c = N(p)/π"
+abbrev pub chiOfDensities : (p : ℕ) (m0 m1 m2 m3 : Float) → Float
+chiOfDensities p m0 m1 m2 m3 = chiOfDensitiesWith (unitDensity p) m0 m1 m2 m3
+
+abbrev pub mergeDensities : (M : ℕ) (T : Float) (p h : ℕ) (m0 m1 m2 m3 : Float) → DensityMerge
+mergeDensities M T p h m0 m1 m2 m3 = mergeDensitiesWith (unitDensity p) M T p h m0 m1 m2 m3
 
 -- the density of a merge, if there is one
 unfoldable pub mergedDensity : DensityMerge → Option Float

@@ -171,7 +171,7 @@ impl Zuniq64 {
 
     // Whether one of two cells lies in the other: the deeper one's ancestor at the other's depth is
     // that other.
-    pub fn are_overlapping_cells(depth_l: u8, hash_l: u64, depth_r: u8, hash_r: u64) -> bool
+    fn are_overlapping_cells(depth_l: u8, hash_l: u64, depth_r: u8, hash_r: u64) -> bool
         requires { ⌜ («depth_l» ≤ 29) × («depth_r» ≤ 29) ⌝ }
         ensures { λ r. ⌜ r ≡ overlap «depth_l» «hash_l» «depth_r» «hash_r» ⌝ }
     {

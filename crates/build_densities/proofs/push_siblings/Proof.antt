@@ -43,7 +43,7 @@ returns : tie.Need-returns
 returns c = let a = c .before .before .before .before .before .before .before .before .before .before .before .before .args in
     let p = c .before .before .before .before .before .before .before .before .before .before .before .before .pre in
     let e = c .before .before .before .before .append-siblings .ensures in
-    let k = reject-densities-iff-kept (a .depth-threshold) (a .chi2-threshold) (a .depth - 1) (a .hash / 4) (a .m0) (a .m1) (a .m2) (a .m3) .1 (_, sym (c .before .before .before .before .before .before .before .before .before .merge-densities-with .ensures) ∙ c .before .before .before .before .before .before .before .enum-told .given .1) in
+    let k = reject-densities-iff-kept (a .depth-threshold) (a .chi2-threshold) (a .depth - 1) (a .hash / 4) (a .m0) (a .m1) (a .m2) (a .m3) .1 (_, sym (rw (p .7) at (c .before .before .before .before .before .before .before .before .before .merge-densities-with .ensures)) ∙ c .before .before .before .before .before .before .before .enum-told .given .1) in
     record { stands = e .0; least = omega arith; is = e .1 ∙ sym (siblings-kept (acceptDensities (a .depth-threshold) (a .chi2-threshold)) (a .depth) (a .hash) (a .m0) (a .m1) (a .m2) (a .m3) (held 29 (a .n) (a .zuniqs .now) (a .densities .now)) (p .3) (p .6) k) }
 
 to-zuniq-unchecked-requires : tie.Need-to-zuniq-unchecked-requires
@@ -69,7 +69,7 @@ returns-2 c = let a = c .before .before .before .before .before .before .before 
     let p = c .before .before .before .before .before .before .before .before .before .before .before .before .before .before .before .pre in
     let x = c .before .before .before .before .before .before .before .before .before .before .density .given .0 .0 in
     let v = parent-zuniq 29 (zuniq 29 (a .depth) (a .hash)) (a .depth) (a .hash) (p .3) (record { deep = p .4; hash = omega (arith, p .5); is = refl }) in
-    let m = accept-densities-iff-merged (a .depth-threshold) (a .chi2-threshold) (a .depth - 1) (a .hash / 4) (a .m0) (a .m1) (a .m2) (a .m3) (c .before .before .before .before .before .before .before .before .before .before .density .given .0 .0) .1 (sym (c .before .before .before .before .before .before .before .before .before .before .before .before .merge-densities-with .ensures) ∙ c .before .before .before .before .before .before .before .before .before .before .density .given .1) in
+    let m = accept-densities-iff-merged (a .depth-threshold) (a .chi2-threshold) (a .depth - 1) (a .hash / 4) (a .m0) (a .m1) (a .m2) (a .m3) (c .before .before .before .before .before .before .before .before .before .before .density .given .0 .0) .1 (sym (rw (p .7) at (c .before .before .before .before .before .before .before .before .before .before .before .before .merge-densities-with .ensures)) ∙ c .before .before .before .before .before .before .before .before .before .before .density .given .1) in
     let s = stored 29 (a .n) _ (a .depth - 1) (a .hash / 4) x (a .zuniqs .now) (a .densities .now) _ _ (p .0) (omega (arith, p .1)) (omega (arith, p .2)) (record { deep = v .deep; hash = v .hash; is = c .before .before .before .before .before .before .before .before .to-zuniq-unchecked .ensures }) (c .before .before .before .before .before .append .ensures .0) (c .before .before .before .before .before .append .ensures .1) in
     let map = held 29 (a .n) (a .zuniqs .now) (a .densities .now) in
     let g = siblings-merged (acceptDensities (a .depth-threshold) (a .chi2-threshold)) (a .depth) (a .hash) (a .m0) (a .m1) (a .m2) (a .m3) map (p .3) (p .6) x m in
@@ -83,7 +83,7 @@ collapse-requires c κs = let a = c .before .before .before .before .before .bef
     let p = c .before .before .before .before .before .before .before .before .before .before .before .before .before .before .before .before .before .pre in
     let x = c .before .before .before .before .before .before .before .before .before .before .before .before .density .given .0 .0 in
     let v = parent-zuniq 29 (zuniq 29 (a .depth) (a .hash)) (a .depth) (a .hash) (p .3) (record { deep = p .4; hash = omega (arith, p .5); is = refl }) in
-    let m = accept-densities-iff-merged (a .depth-threshold) (a .chi2-threshold) (a .depth - 1) (a .hash / 4) (a .m0) (a .m1) (a .m2) (a .m3) (c .before .before .before .before .before .before .before .before .before .before .before .before .density .given .0 .0) .1 (sym (c .before .before .before .before .before .before .before .before .before .before .before .before .before .before .merge-densities-with .ensures) ∙ c .before .before .before .before .before .before .before .before .before .before .before .before .density .given .1) in
+    let m = accept-densities-iff-merged (a .depth-threshold) (a .chi2-threshold) (a .depth - 1) (a .hash / 4) (a .m0) (a .m1) (a .m2) (a .m3) (c .before .before .before .before .before .before .before .before .before .before .before .before .density .given .0 .0) .1 (sym (rw (p .7) at (c .before .before .before .before .before .before .before .before .before .before .before .before .before .before .merge-densities-with .ensures)) ∙ c .before .before .before .before .before .before .before .before .before .before .before .before .density .given .1) in
     let s = stored 29 (a .n) _ (a .depth - 1) (a .hash / 4) x (a .zuniqs .now) (a .densities .now) _ _ (p .0) (omega (arith, p .1)) (omega (arith, p .2)) (record { deep = v .deep; hash = v .hash; is = c .before .before .before .before .before .before .before .before .before .before .to-zuniq-unchecked .ensures }) (c .before .before .before .before .before .before .before .append .ensures .0) (c .before .before .before .before .before .before .before .append .ensures .1) in
     let map = held 29 (a .n) (a .zuniqs .now) (a .densities .now) in
     let g = siblings-merged (acceptDensities (a .depth-threshold) (a .chi2-threshold)) (a .depth) (a .hash) (a .m0) (a .m1) (a .m2) (a .m3) map (p .3) (p .6) x m in
@@ -100,7 +100,7 @@ returns-3 c = let a = c .before .before .before .before .before .before .before 
     let p = c .before .before .before .before .before .before .before .before .before .before .before .before .before .before .before .before .before .before .before .before .before .before .pre in
     let x = c .before .before .before .before .before .before .before .before .before .before .before .before .before .before .before .before .before .density .given .0 .0 in
     let v = parent-zuniq 29 (zuniq 29 (a .depth) (a .hash)) (a .depth) (a .hash) (p .3) (record { deep = p .4; hash = omega (arith, p .5); is = refl }) in
-    let m = accept-densities-iff-merged (a .depth-threshold) (a .chi2-threshold) (a .depth - 1) (a .hash / 4) (a .m0) (a .m1) (a .m2) (a .m3) (c .before .before .before .before .before .before .before .before .before .before .before .before .before .before .before .before .before .density .given .0 .0) .1 (sym (c .before .before .before .before .before .before .before .before .before .before .before .before .before .before .before .before .before .before .before .merge-densities-with .ensures) ∙ c .before .before .before .before .before .before .before .before .before .before .before .before .before .before .before .before .before .density .given .1) in
+    let m = accept-densities-iff-merged (a .depth-threshold) (a .chi2-threshold) (a .depth - 1) (a .hash / 4) (a .m0) (a .m1) (a .m2) (a .m3) (c .before .before .before .before .before .before .before .before .before .before .before .before .before .before .before .before .before .density .given .0 .0) .1 (sym (rw (p .7) at (c .before .before .before .before .before .before .before .before .before .before .before .before .before .before .before .before .before .before .before .merge-densities-with .ensures)) ∙ c .before .before .before .before .before .before .before .before .before .before .before .before .before .before .before .before .before .density .given .1) in
     let s = stored 29 (a .n) _ (a .depth - 1) (a .hash / 4) x (a .zuniqs .now) (a .densities .now) _ _ (p .0) (omega (arith, p .1)) (omega (arith, p .2)) (record { deep = v .deep; hash = v .hash; is = c .before .before .before .before .before .before .before .before .before .before .before .before .before .before .before .to-zuniq-unchecked .ensures }) (c .before .before .before .before .before .before .before .before .before .before .before .before .append .ensures .0) (c .before .before .before .before .before .before .before .before .before .before .before .before .append .ensures .1) in
     let map = held 29 (a .n) (a .zuniqs .now) (a .densities .now) in
     let g = siblings-merged (acceptDensities (a .depth-threshold) (a .chi2-threshold)) (a .depth) (a .hash) (a .m0) (a .m1) (a .m2) (a .m3) map (p .3) (p .6) x m in

@@ -2,8 +2,8 @@
 use mathlib.Core.Path.{_≡_}
 use mathlib.Core.Bool.{true, false}
 use lib.Ieee.{lt}
-use Rattle.merger.proofs.max.Statement.{statement}
-use Rattle.merger.proofs.max.Tie as tie
+use Rattle.merger.proofs.density_merger.max.Statement.{statement}
+use Rattle.merger.proofs.density_merger.max.Tie as tie
 
 returns : tie.Need-returns
 returns c =

@@ -1,9 +1,9 @@
--- `chi2_of_densities` meets its contract: its steps are those of `chiOfDensities`. Assumes nothing.
+-- `chi2_of_densities` meets its contract: its steps are those of `chiOfDensitiesWith`. Assumes nothing.
 use borrow.Author.Needs.{needs}
 use lib.Ieee.{ofBits}
-use Rattle.merger.specs.Merge.{chiOfDensities}
-use Rattle.merger.proofs.chi2_of_densities.Statement.{statement}
-use Rattle.merger.proofs.chi2_of_densities.Tie as tie
+use Rattle.merger.specs.Merge.{chiOfDensitiesWith}
+use Rattle.merger.proofs.density_merger.chi2_of_densities.Statement.{statement}
+use Rattle.merger.proofs.density_merger.chi2_of_densities.Tie as tie
 
 max-requires : tie.Need-max-requires
 max-requires c κs = search needs
@@ -24,11 +24,10 @@ sum-of-requires-2 : tie.Need-sum-of-requires-2
 sum-of-requires-2 c κs = search needs
 
 returns : tie.Need-returns
-unfolding ofBits chiOfDensities
+unfolding ofBits chiOfDensitiesWith
 returns c =
     let m3 = c .before .before in
-    let m0 = m3 .before .before .before in
-    rw (← m0 .before .pre) (simp (c .sum-of2 .ensures, c .before .sum-of .ensures, m3 .max4 .ensures, m3 .before .max3 .ensures, m3 .before .before .max2 .ensures, m0 .max .ensures))
+    simp (c .sum-of2 .ensures, c .before .sum-of .ensures, m3 .max4 .ensures, m3 .before .max3 .ensures, m3 .before .before .max2 .ensures, m3 .before .before .before .max .ensures)
 
 pub chi2-of-densities-spec : {M : Type 1} → statement M
 chi2-of-densities-spec =

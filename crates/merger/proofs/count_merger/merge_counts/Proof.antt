@@ -1,8 +1,8 @@
 -- `merge_counts` meets its contract: no sum wraps, since that of all four fits a u32. Assumes nothing.
 use borrow.Author.Needs.{needs}
 use Rattle.merger.specs.Merge.{mergeCounts}
-use Rattle.merger.proofs.merge_counts.Statement.{statement}
-use Rattle.merger.proofs.merge_counts.Tie as tie
+use Rattle.merger.proofs.count_merger.merge_counts.Statement.{statement}
+use Rattle.merger.proofs.count_merger.merge_counts.Tie as tie
 
 chi2-of-counts-requires : tie.Need-chi2-of-counts-requires
 chi2-of-counts-requires c κs = search needs

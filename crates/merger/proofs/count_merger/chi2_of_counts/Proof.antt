@@ -2,8 +2,8 @@
 use borrow.Author.Needs.{needs}
 use lib.Ieee.{ofBits}
 use Rattle.merger.specs.Merge.{chiOfCounts}
-use Rattle.merger.proofs.chi2_of_counts.Statement.{statement}
-use Rattle.merger.proofs.chi2_of_counts.Tie as tie
+use Rattle.merger.proofs.count_merger.chi2_of_counts.Statement.{statement}
+use Rattle.merger.proofs.count_merger.chi2_of_counts.Tie as tie
 
 int-to-float-mu0 : tie.Need-int-to-float-mu0
 int-to-float-mu0 c = search needs

@@ -4,8 +4,8 @@ use mathlib.Core.Bool.{true, false}
 use lib.Ieee.{ofBits, nanBits, le}
 use Rattle.merger.specs.Floats.{0·0}
 use Rattle.merger.proofs.Floats.{invalid-density-is}
-use Rattle.merger.proofs.invalid_density.Statement.{statement}
-use Rattle.merger.proofs.invalid_density.Tie as tie
+use Rattle.merger.proofs.density_merger.invalid_density.Statement.{statement}
+use Rattle.merger.proofs.density_merger.invalid_density.Tie as tie
 
 float-from-bits-result : tie.Need-float-from-bits-result
 unfolding nanBits

@@ -1,8 +1,8 @@
 -- `first_invalid` meets its contract. Assumes nothing.
 use borrow.Author.Needs.{needs}
 use Rattle.merger.specs.Merge.{firstInvalid}
-use Rattle.merger_calls.proofs.first_invalid.Statement.{statement}
-use Rattle.merger_calls.proofs.first_invalid.Tie as tie
+use Rattle.merger.proofs.density_merger.first_invalid.Statement.{statement}
+use Rattle.merger.proofs.density_merger.first_invalid.Tie as tie
 
 invalid-density-requires : tie.Need-invalid-density-requires
 invalid-density-requires c κs = search needs

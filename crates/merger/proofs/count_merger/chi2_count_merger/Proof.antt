@@ -3,9 +3,9 @@ use Prim.Native.Nat.{_+_}
 use native.Mathlib.Omega.{arith}
 use borrow.Author.Needs.{needs}
 use borrow.Author.Tests.{lt-ltb, le-ltb}
 use Rattle.merger.specs.Merge.{countMerger}
-use Rattle.merger_calls.proofs.chi2_count_merger.Statement.{statement}
-use Rattle.merger_calls.proofs.chi2_count_merger.Tie as tie
+use Rattle.merger.proofs.count_merger.chi2_count_merger.Statement.{statement}
+use Rattle.merger.proofs.count_merger.chi2_count_merger.Tie as tie
 
 returns : tie.Need-returns
 unfolding countMerger

@@ -2,9 +2,9 @@
 use native.Mathlib.Omega.{arith}
 use borrow.Author.Needs.{needs}
 use borrow.Author.Tests.{lt-ltb, le-ltb}
 use Rattle.merger.specs.Merge.{densityMerger}
-use Rattle.merger_calls.proofs.chi2_density_merger.Statement.{statement}
-use Rattle.merger_calls.proofs.chi2_density_merger.Tie as tie
+use Rattle.merger.proofs.density_merger.chi2_density_merger.Statement.{statement}
+use Rattle.merger.proofs.density_merger.chi2_density_merger.Tie as tie
 
 returns : tie.Need-returns
 unfolding densityMerger

@@ -1,0 +1,87 @@
+// The count merger.
+ghost use mathlib.Core.Path.{_≡_};
+ghost use Prim.Native.Nat.{_+_, _≤_};
+ghost use Rattle.merger.specs.Merge.{chiOfCounts, mergeCounts, countMerger};
+use super::CountMerge;
+use super::CountMerger;
+use super::MAX_PARENT_DEPTH;
+use super::is_nan;
+use super::merges;
+use super::sum_of;
+use refusal::Refusal;
+use zuniq::Zuniq64;
+
+const MAX_COUNT: u64 = 4_294_967_295;
+
+// The source's `new_chi2_count_merger_with_depth_threshold`, called on the four counts.
+pub fn chi2_count_merger(
+    parent_depth: u8,
+    depth_threshold: u8,
+    chi2_threshold: f64,
+    n0: u32,
+    n1: u32,
+    n2: u32,
+    n3: u32,
+) -> CountMerger
+    ensures { λ r. ⌜ r ≡ countMerger «depth_threshold» «chi2_threshold» «parent_depth» n0 n1 n2 n3 ⌝ }
+{
+    if parent_depth > MAX_PARENT_DEPTH {
+        return CountMerger::Refused(Refusal::DepthOutOfRange);
+    }
+    if depth_threshold > Zuniq64::MAX_DEPTH {
+        return CountMerger::Refused(Refusal::DepthThresholdOutOfRange);
+    }
+    if is_nan(chi2_threshold) {
+        return CountMerger::Refused(Refusal::Chi2ThresholdIsNan);
+    }
+    if n0 as u64 + n1 as u64 + n2 as u64 + n3 as u64 > MAX_COUNT {
+        return CountMerger::Refused(Refusal::CountOverflow(0));
+    }
+    CountMerger::Answer(merge_counts(
+        parent_depth,
+        0,
+        depth_threshold,
+        chi2_threshold,
+        n0,
+        n1,
+        n2,
+        n3,
+    ))
+}
+
+// The count merger for four counts whose sum fits a u32.
+pub fn merge_counts(
+    parent_depth: u8,
+    parent_hash: u64,
+    depth_threshold: u8,
+    chi2_threshold: f64,
+    n0: u32,
+    n1: u32,
+    n2: u32,
+    n3: u32,
+) -> CountMerge
+    requires { ⌜ n0 + n1 + n2 + n3 ≤ 4294967295 ⌝ }
+    ensures { λ r. ⌜ r ≡ mergeCounts «depth_threshold» «chi2_threshold» «parent_depth» «parent_hash» n0 n1 n2 n3 ⌝ }
+{
+    let chi2 = chi2_of_counts(n0, n1, n2, n3);
+    if merges(parent_depth, depth_threshold, chi2_threshold, chi2) {
+        return CountMerge::Merged(n0 + n1 + n2 + n3);
+    }
+    CountMerge::Kept(chi2)
+}
+
+// The chi-square of four counts about their common mean, after Pineau et al. 2017. A count n_i has
+// the variance n_i, so the mean weighted by the inverse variances is 4 / w, w being the sum of the
+// 1 / n_i, and
+//     chi2 = sum of (n_i - 4 / w)^2 / n_i = (sum of n_i) - 4 * (4 / w).
+// A zero makes w infinite and chi2 the sum.
+fn chi2_of_counts(n0: u32, n1: u32, n2: u32, n3: u32) -> f64
+    ensures { λ r. ⌜ r ≡ chiOfCounts n0 n1 n2 n3 ⌝ }
+{
+    let mu0 = n0 as f64;
+    let mu1 = n1 as f64;
+    let mu2 = n2 as f64;
+    let mu3 = n3 as f64;
+    let w = sum_of(1.0 / mu0, 1.0 / mu1, 1.0 / mu2, 1.0 / mu3);
+    sum_of(mu0, mu1, mu2, mu3) - 4.0 * (4.0 / w)
+}
