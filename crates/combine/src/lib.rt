@@ -2,8 +2,8 @@
 // heads; what a rule keeps of it is merged as cells are added to a map. The pool of two count maps
 // and the product of two density maps are two such rules.
 //
-// The calls are in `pool` and `product`, and their walks in `walk_counts` and `walk_densities`. Here
-// are the definitions and laws of both, what a walk is made of, and the checks that they share.
+// The calls, with their walks, are in `pool` and `product`. Here are the definitions and laws of
+// both, what a walk is made of, and the checks that they share.
 ghost use mathlib.Core.Path.{_≡_};
 ghost use Rattle.mom.specs.Map.{firstFault};
 ghost use Rattle.build.specs.Map.{orElse};

@@ -22,7 +22,9 @@ use combine::check_maps;
 use combine::check_pairs;
 use combine::check_settings;
 use refusal::Refusal;
-use walk_counts::pool_cells;
+use walk::pool_cells;
+
+mod walk;
 
 const MAX_COUNT: u64 = 4294967295;
 

@@ -24,7 +24,9 @@ use combine::check_settings;
 use combine::densities::Cells;
 use merger::invalid_density;
 use refusal::Refusal;
-use walk_densities::product_cells;
+use walk::product_cells;
+
+mod walk;
 
 // Multiplies two maps into two output buffers.
 pub fn product(

@@ -1,0 +1,51 @@
+-- `next` meets its contract. Assumes nothing.
+use mathlib.Core.Path.{refl, ap, sym, _∙_}
+use mathlib.Core.Bool.{not, Bool·not-not}
+use native.Mathlib.Omega.{arith}
+use Rattle.combine.specs.Heads.{stays, pops, fetches, finishes}
+use Rattle.combine.specs.Counts.{asEntry, zuniqIn, headOf}
+use Rattle.combine.proofs.Heads.{entry-known}
+use borrow.Author.Needs.{needs}
+use Rattle.pool.proofs.walk.next.Statement.{statement}
+use Rattle.pool.proofs.walk.next.Tie as tie
+
+returns : tie.Need-returns
+returns c = stays (sym (Bool·not-not _) ∙ ap not (c .if1 .taken)) refl
+
+sub-t9 : tie.Need-sub-t9
+sub-t9 c = search needs
+
+returns-2 : tie.Need-returns-2
+returns-2 c = pops (sym (Bool·not-not _) ∙ ap not (c .before .before .before .if1 .left)) (c .before .if2 .taken) refl
+
+head-at-requires : tie.Need-head-at-requires
+head-at-requires c κs = search needs
+
+enum-told : tie.Need-enum-told
+enum-told c = search needs
+
+enum-known-cell : tie.Need-enum-known-cell
+enum-known-cell c = search needs
+
+add-t14 : tie.Need-add-t14
+add-t14 c = let a = c .before .before .before .before .before .before .before .before .before .before .args in let k = entry-known asEntry zuniqIn 0 (a .zuniqs .now) (a .counts .now) _ _ _ (ap headOf (c .before .cell .given .1)) (c .before .before .before .head-at .ensures) in record { fits = omega (arith, k .0, c .before .before .before .before .before .before .before .before .before .before .good) }
+
+returns-3 : tie.Need-returns-3
+returns-3 c = let a = c .before .before .before .before .before .before .before .before .before .args in finishes (sym (Bool·not-not _) ∙ ap not (c .before .before .before .before .before .if1 .left)) (c .before .before .before .if2 .left) (entry-known asEntry zuniqIn 0 (a .zuniqs .now) (a .counts .now) _ _ _ (ap headOf (c .enum-told .given .1)) (c .before .before .head-at .ensures)) refl
+
+returns-4 : tie.Need-returns-4
+returns-4 c = let a = c .before .before .before .before .before .before .before .before .before .before .args in fetches (sym (Bool·not-not _) ∙ ap not (c .before .before .before .before .before .before .if1 .left)) (c .before .before .before .before .if2 .left) _ (entry-known asEntry zuniqIn 0 (a .zuniqs .now) (a .counts .now) _ _ _ (ap headOf (c .before .cell .given .1)) (c .before .before .before .head-at .ensures)) refl
+
+pub next-spec : {M : Type 1} → statement M
+next-spec =
+    tie.close
+    (tie.spec
+    returns
+    sub-t9
+    returns-2
+    head-at-requires
+    enum-told
+    enum-known-cell
+    add-t14
+    returns-3
+    returns-4)
