@@ -10,17 +10,16 @@
 ghost use mathlib.Core.Path.{_≡_};
 ghost use Prim.Native.Nat.{_≤_};
 ghost use lib.ListN.{length};
-ghost use Rattle.zuniq.specs.declared.Cell.{Cell};
 ghost use Rattle.mom.specs.Lookup.{IsWithin, IsPart, ContainingAnswer, RunAnswer, OverlappedAnswer};
-ghost use Rattle.mom.specs.Range.{IsRangeOf};
-ghost use Rattle.mom.specs.Search.{cellOverlaps, LowerBound, OverlapsBefore, OverlapsFrom};
+ghost use Rattle.mom.specs.Range.{meets};
+ghost use Rattle.mom.specs.Search.{LowerBound, OverlapsBefore, OverlapsFrom};
+use mom::Ranged;
 use mom::ZuniqRange;
 use mom::lookup::Containing;
 use mom::lookup::Overlapped;
 use mom::lookup::Run;
 use mom::range_of;
 use refusal::Refusal;
-use zuniq::Decoded;
 use zuniq::Zuniq64;
 
 // The place of the entry in which a cell of the map's depth lies.
@@ -30,7 +29,7 @@ pub fn get_cell_containing(depth: u8, zuniqs: &[u64], zuniq: u64) -> Containing
     if depth > Zuniq64::MAX_DEPTH {
         return Containing::Refused(Refusal::DepthOutOfRange);
     }
-    let Decoded::Cell(query) = Zuniq64::from_zuniq(zuniq) else {
+    let Ranged::Range(query) = range_of(zuniq) else {
         return Containing::Refused(Refusal::InvalidQuery(0));
     };
     if query.depth != depth {
@@ -38,14 +37,13 @@ pub fn get_cell_containing(depth: u8, zuniqs: &[u64], zuniq: u64) -> Containing
     }
     // Of the entries below the query only the last can contain it, of the others only the first.
     let place = lower_bound(zuniqs, zuniq);
-    let range = range_of(zuniq, query);
     if place < zuniqs.len() {
-        if is_overlapped(range, zuniqs[place]) {
+        if is_overlapped(query, zuniqs[place]) {
             return Containing::At(place);
         }
     }
     if place > 0 {
-        if is_overlapped(range, zuniqs[place - 1]) {
+        if is_overlapped(query, zuniqs[place - 1]) {
             return Containing::At(place - 1);
         }
     }
@@ -65,14 +63,13 @@ pub fn get_overlapped_cells<'a>(zuniqs: &'a [u64], zuniq: u64) -> Overlapped<'a>
 pub fn get_overlapped_run(zuniqs: &[u64], zuniq: u64) -> Run
     ensures { λ r. ⌜ RunAnswer 29 (now (zuniqs .entry)) «zuniq» r ⌝ }
 {
-    let Decoded::Cell(query) = Zuniq64::from_zuniq(zuniq) else {
+    let Ranged::Range(query) = range_of(zuniq) else {
         return Run::Refused(Refusal::InvalidQuery(0));
     };
     // The run stands around this place: what it has below the query before it, the others from it on.
     let place = lower_bound(zuniqs, zuniq);
-    let range = range_of(zuniq, query);
-    let first = run_start(zuniqs, range, place);
-    let end = run_end(zuniqs, range, place);
+    let first = run_start(zuniqs, query, place);
+    let end = run_end(zuniqs, query, place);
     if first < end {
         return Run::Entries {
             first,
@@ -98,13 +95,12 @@ fn run_part(zuniqs: &[u64], run: Run) -> &[u64]
 
 // Whether an entry is a valid zuniq that overlaps the query: then each starts before the other ends.
 // Over an invalid map an entry may stand on the wrong side of the query, so both are tried.
-fn is_overlapped(query: ZuniqRange, zuniq: u64) -> bool
-    ensures { λ r. ⌜ ((c : Cell) → IsRangeOf 29 c query → r ≡ cellOverlaps 29 c «zuniq») ⌝ }
+pub fn is_overlapped(query: ZuniqRange, zuniq: u64) -> bool
+    ensures { λ r. ⌜ r ≡ meets 29 query «zuniq» ⌝ }
 {
-    let Decoded::Cell(cell) = Zuniq64::from_zuniq(zuniq) else {
+    let Ranged::Range(range) = range_of(zuniq) else {
         return false;
     };
-    let range = range_of(zuniq, cell);
     query.start < range.end && range.start < query.end
 }
 
@@ -129,7 +125,7 @@ fn lower_bound(zuniqs: &[u64], zuniq: u64) -> usize
 // The first of the entries before a place that overlap the query without a gap.
 fn run_start(zuniqs: &[u64], query: ZuniqRange, place: usize) -> usize
     requires { ⌜ place ≤ length (now zuniqs) ⌝ }
-    ensures { λ r. ⌜ ((c : Cell) → IsRangeOf 29 c query → OverlapsBefore 29 (now (zuniqs .entry)) c place r) ⌝ }
+    ensures { λ r. ⌜ OverlapsBefore 29 (now (zuniqs .entry)) query place r ⌝ }
 {
     let mut first = place;
     while first > 0 {
@@ -144,7 +140,7 @@ fn run_start(zuniqs: &[u64], query: ZuniqRange, place: usize) -> usize
 // The end of the entries from a place on that overlap the query without a gap.
 fn run_end(zuniqs: &[u64], query: ZuniqRange, place: usize) -> usize
     requires { ⌜ place ≤ length (now zuniqs) ⌝ }
-    ensures { λ r. ⌜ ((c : Cell) → IsRangeOf 29 c query → OverlapsFrom 29 (now (zuniqs .entry)) c place r) ⌝ }
+    ensures { λ r. ⌜ OverlapsFrom 29 (now (zuniqs .entry)) query place r ⌝ }
 {
     let mut end = place;
     while end < zuniqs.len() {

@@ -13,13 +13,16 @@ use Rattle.refusal.specs.declared.Refusal.{Refusal}
 use Rattle.zuniq.specs.declared.Cell.{Cell}
 use Rattle.zuniq.specs.declared.Decoded.{Decoded}
 use Rattle.zuniq.proofs.Basics.{is-false, le-or-lt}
-use Rattle.zuniq.proofs.Codec.{decodes}
+use Rattle.mom.specs.declared.ZuniqRange.{ZuniqRange}
+use Rattle.mom.specs.declared.Ranged.{Ranged}
 use Rattle.mom.specs.declared.lookup.Containing.{Containing}
 use Rattle.mom.specs.declared.lookup.Run.{Run}
 use Rattle.mom.specs.Map.{overlaps, ValidMap}
 use Rattle.mom.specs.Lookup.{contains, placeFrom, queryAt, containing, overlapped, firstFrom, runOr, overlapping, partOf, IsPart, ContainingAnswer, RunAnswer, OverlappedAnswer}
-use Rattle.mom.specs.Search.{cellOverlaps, LowerBound, OverlapsBefore, OverlapsFrom}
-use Rattle.mom.proofs.Overlaps.{overlaps-cell, contains-shallower}
+use Rattle.mom.specs.Range.{rangeOf, meets}
+use Rattle.mom.specs.Search.{LowerBound, OverlapsBefore, OverlapsFrom}
+use Rattle.mom.proofs.Overlaps.{contains-shallower}
+use Rattle.mom.proofs.Ranges.{HasRange, has-none, overlaps-meets}
 use Rattle.mom.proofs.Valid.{valid-entry, contains-once}
 use Rattle.mom.proofs.Runs.{place-found, place-none, place-not-refused, overlapping-part}
 use Rattle.mom.proofs.Around.{all-found, none-before, none-from, run-found, run-none}
@@ -50,26 +53,27 @@ module _ {K D : ℕ} {zs : List ℕ} {q : ℕ} where
 
   module _ (k : D ≤ K) where
     -- The query is no zuniq.
-    pub not-zuniq-refused : decode K q ≡ Decoded.Nothing → ContainingAnswer K D zs q (Containing.Refused (Refusal.InvalidQuery 0))
+    pub not-zuniq-refused : rangeOf K q ≡ Ranged.Nothing → ContainingAnswer K D zs q (Containing.Refused (Refusal.InvalidQuery 0))
     unfolding containing queryAt
-    not-zuniq-refused e = refused-answer (Refusal.InvalidQuery 0) (rw (le-ltb K D k, e) refl)
+    not-zuniq-refused e = refused-answer (Refusal.InvalidQuery 0) (rw (le-ltb K D k, has-none K q e) refl)
 
-    module _ {c : Cell} (e : decode K q ≡ Decoded.Cell c) where
+    module _ {query : ZuniqRange} (h : HasRange K q query) where
       -- The query is not of the map's depth.
-      pub not-at-depth-refused : (c .depth ≡ D → ⊥) → ContainingAnswer K D zs q (Containing.Refused (Refusal.InvalidQuery 0))
+      pub not-at-depth-refused : (query .depth ≡ D → ⊥) → ContainingAnswer K D zs q (Containing.Refused (Refusal.InvalidQuery 0))
       unfolding containing queryAt
-      not-at-depth-refused n = refused-answer (Refusal.InvalidQuery 0) (rw (le-ltb K D k, e, ne-eqb (c .depth) D n) refl)
+      not-at-depth-refused n =
+          refused-answer (Refusal.InvalidQuery 0) (rw (le-ltb K D k, h .decoded, ne-eqb (h .cell .depth) D (λ same. n (h .deep ∙ same))) refl)
 
-      module _ (at-depth : c .depth ≡ D) where
+      module _ (at-depth : query .depth ≡ D) where
         -- An entry that overlaps the query is shown.
-        pub at-answer : {i : ℕ} → i < length zs → cellOverlaps K c (getD zs i 0) ≡ true → ContainingAnswer K D zs q (Containing.At i)
+        pub at-answer : {i : ℕ} → i < length zs → meets K query (getD zs i 0) ≡ true → ContainingAnswer K D zs q (Containing.At i)
         at-answer {i} l t =
-            let w = decodes K q c .0 e in
-            let is = is-place K D zs q c k e at-depth in
-            let o = overlaps-cell c w (getD zs i 0) ∙ t in
+            let at-D = sym (h .deep) ∙ at-depth in
+            let is = is-place K D zs q (h .cell) k (h .decoded) at-D in
+            let o = overlaps-meets h (getD zs i 0) ∙ t in
             record {
               over-valid = λ v.
-                  let u = contains-overlaps v q c w at-depth i l ∙ o in
+                  let u = contains-overlaps v q (h .cell) (h .valid) at-D i l ∙ o in
                   let z : 0 + i ≡ i = omega arith in
                   sym (is ∙ rw z at (place-found K q zs i 0 l u (λ j m. is-false _ (λ s. absurd (omega (arith, contains-once v q j i (omega arith) l s u))))));
               refused = λ x. (λ r. let n : _≡_ {A = ℕ} 0 1 = cc in absurd (omega arith), λ r. absurd (place-not-refused K q zs 0 x (sym is ∙ r)));
@@ -77,27 +81,25 @@ module _ {K D : ℕ} {zs : List ℕ} {q : ℕ} where
             }
 
         -- Where neither neighbour of the place overlaps the query, no entry contains it.
-        pub nothing-answer : {place : ℕ} → LowerBound zs q place → (0 < place → cellOverlaps K c (getD zs (place - 1) 0) ≡ false)
-            → (place < length zs → cellOverlaps K c (getD zs place 0) ≡ false) → ContainingAnswer K D zs q Containing.Nothing
+        pub nothing-answer : {place : ℕ} → LowerBound zs q place → (0 < place → meets K query (getD zs (place - 1) 0) ≡ false)
+            → (place < length zs → meets K query (getD zs place 0) ≡ false) → ContainingAnswer K D zs q Containing.Nothing
         nothing-answer {place} at left right =
-            let is = is-place K D zs q c k e at-depth in
+            let at-D = sym (h .deep) ∙ at-depth in
+            let is = is-place K D zs q (h .cell) k (h .decoded) at-D in
             record {
-              over-valid = λ v. sym (is ∙ place-none K q zs 0 (λ j m. contains-overlaps v q c w at-depth j m ∙ none v j m));
+              over-valid = λ v. sym (is ∙ place-none K q zs 0 (λ j m. contains-overlaps v q (h .cell) (h .valid) at-D j m ∙ none v j m));
               refused = λ x. (λ r. let n : _≡_ {A = ℕ} 0 1 = cc in absurd (omega arith), λ r. absurd (place-not-refused K q zs 0 x (sym is ∙ r)));
               shown = λ j r. let n : _≡_ {A = ℕ} 0 1 = cc in absurd (omega arith);
             }
           where
-            w : IsZuniqOf K q (c .depth) (c .hash)
-            w = decodes K q c .0 e
-
-            before : OverlapsBefore K zs c place place
+            before : OverlapsBefore K zs query place place
             before = record { within = omega arith; all = λ i l m. absurd (omega arith); stops = left }
 
-            from : OverlapsFrom K zs c place place
+            from : OverlapsFrom K zs query place place
             from = record { from = omega arith; within = at .within; all = λ i l m. absurd (omega arith); stops = right }
 
             none : ValidMap K D zs → (j : ℕ) → j < length zs → overlaps K q (getD zs j 0) ≡ false
-            none v j m = ⊎-elim (λ a. none-from v c w at from j a m) (λ a. none-before v c w at before j a) (le-or-lt place j)
+            none v j m = ⊎-elim (λ a. none-from v h at from j a m) (λ a. none-before v h at before j a) (le-or-lt place j)
 
 -- ---- overlapping
 -- A query that is a zuniq has a run.
@@ -107,39 +109,38 @@ is-run K zs q c e = rw e refl
 
 module _ {K : ℕ} {zs : List ℕ} {q : ℕ} where
   -- The query is no zuniq.
-  pub run-refused : decode K q ≡ Decoded.Nothing → RunAnswer K zs q (Run.Refused (Refusal.InvalidQuery 0))
+  pub run-refused : rangeOf K q ≡ Ranged.Nothing → RunAnswer K zs q (Run.Refused (Refusal.InvalidQuery 0))
   unfolding overlapping runOr
   run-refused e =
-      let is : overlapping K zs q ≡ Run.Refused (Refusal.InvalidQuery 0) = rw e refl in
+      let is : overlapping K zs q ≡ Run.Refused (Refusal.InvalidQuery 0) = rw (has-none K q e) refl in
       record {
         over-valid = λ v. sym is;
         refused = λ x. (λ r. is ∙ r, λ r. sym is ∙ r);
         shown = λ first len r. let n : _≡_ {A = ℕ} 0 1 = cc in absurd (omega arith);
       }
 
-  module _ {c : Cell} (e : decode K q ≡ Decoded.Cell c) where
+  module _ {query : ZuniqRange} (h : HasRange K q query) where
     -- Entries that overlap the query are shown, if they are the run of a valid map.
     entries-answer : (first len : ℕ) → first + len ≤ length zs → ((i : ℕ) → i < len → overlaps K q (getD zs (first + i) 0) ≡ true)
         → (ValidMap K K zs → Run.Entries (firstFrom K q 0 zs) (length (overlapped K zs q)) ≡ Run.Entries first len) → RunAnswer K zs q (Run.Entries first len)
     entries-answer first len l all run =
-        let is = is-run K zs q c e in
+        let is = is-run K zs q (h .cell) (h .decoded) in
         record {
           over-valid = λ v. sym (is ∙ run v);
           refused = λ x. (λ r. let n : _≡_ {A = ℕ} 0 1 = cc in absurd (omega arith), λ r. let n : _≡_ {A = ℕ} 0 1 = cc in absurd (omega arith));
           shown = λ f n r. let a : first ≡ f = cc in let b : len ≡ n = cc in rw (← a, ← b) (l, all);
         }
 
-    module _ {place first last : ℕ} (at : LowerBound zs q place) (before : OverlapsBefore K zs c place first) (from : OverlapsFrom K zs c place last) where
+    module _ {place first last : ℕ} (at : LowerBound zs q place) (before : OverlapsBefore K zs query place first) (from : OverlapsFrom K zs query place last) where
       -- The entries found on both sides of the place are shown.
       pub run-answer : first < last → RunAnswer K zs q (Run.Entries first (last - first))
       run-answer l =
-          let w = decodes K q c .0 e in
           entries-answer first (last - first) (omega (arith, from .within))
-          (λ i m. all-found c w before from (first + i) (omega arith) (omega arith)) (λ v. run-found v c w at before from l)
+          (λ i m. all-found h before from (first + i) (omega arith) (omega arith)) (λ v. run-found v h at before from l)
 
       -- Where none is found, none is shown.
       pub empty-answer : last ≤ first → RunAnswer K zs q (Run.Entries 0 0)
-      empty-answer l = entries-answer 0 0 (omega arith) (λ i m. absurd (omega arith)) (λ v. run-none v c (decodes K q c .0 e) at before from l)
+      empty-answer l = entries-answer 0 0 (omega arith) (λ i m. absurd (omega arith)) (λ v. run-none v h at before from l)
 
 -- A run with its part of the zuniqs.
 pub overlapped-answer : {K size q : ℕ} {zs part : RefT (List ℕ)} {run : Run} → RunAnswer K (now zs) q run → IsPart size zs run part → OverlappedAnswer K size zs q part run

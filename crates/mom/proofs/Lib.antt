@@ -1,8 +1,10 @@
 pub mod Overlaps
+pub mod Ranges
 pub mod Rises
 pub mod Valid
 pub mod Faults
 pub mod Runs
 pub mod Passed
 pub mod Around
+pub mod Searching
 pub mod Answers

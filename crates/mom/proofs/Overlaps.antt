@@ -1,24 +1,20 @@
 -- Zuniqs that overlap, and that contain one another, told by their cells and their ranges. Over any largest depth K.
 -- Assumes nothing.
 use mathlib.Core.Path.{_≡_, refl, sym, _∙_}
-use mathlib.Core.Bool.{Bool, true, false, _&&_, false≢true}
+use mathlib.Core.Bool.{true, false, false≢true}
 use mathlib.Core.Logic.{_↔_}
 use Prim.Native.Nat.{ℕ, _+_, _/_, _-_, _^_, _≤_, _<_}
 use native.Mathlib.Omega.{arith}
-use lib.Dec.{ltb}
-use borrow.Author.Tests.{le-leb, ltb-true, ltb-false}
+use borrow.Author.Tests.{le-leb}
 use Rattle.zuniq.specs.Cells.{liesIn, overlap, start, end}
 use Rattle.zuniq.specs.Codec.{IsZuniqOf, decode, overlapTest, overlapOf}
 use Rattle.zuniq.specs.declared.Cell.{Cell}
 use Rattle.zuniq.specs.declared.Decoded.{Decoded}
-use Rattle.zuniq.proofs.Basics.{is-false, eqb-sym}
+use Rattle.zuniq.proofs.Basics.{eqb-sym}
 use Rattle.zuniq.proofs.Codec.{cell, zuniq-injective, decodes}
 use Rattle.zuniq.proofs.Ranges.{start-lt-end, zuniq-is-start-plus-end, overlap-sym, overlap-ancestor, lies-in-within, overlap-iff-meets, end-le-start-iff-zuniq-lt}
-use Rattle.mom.specs.declared.ZuniqRange.{ZuniqRange}
 use Rattle.mom.specs.Map.{IsZuniq, isYes, overlaps}
 use Rattle.mom.specs.Lookup.{cellLiesIn, contains}
-use Rattle.mom.specs.Range.{IsRangeOf}
-use Rattle.mom.specs.Search.{cellOverlapsCell, cellOverlaps}
 
 -- A cell overlaps one that is no deeper exactly if it lies in it.
 overlap-shallower : (d h e g : ℕ) → e ≤ d → overlap d h e g ≡ liesIn d h e g
@@ -61,15 +57,6 @@ module _ {K : ℕ} where
       go (Decoded.Cell c) p Decoded.Nothing r u = absurd (false≢true u)
       go (Decoded.Cell c) p (Decoded.Cell e) r u = ((c .depth, c .hash, decodes K q c .0 p), (e .depth, e .hash, decodes K z e .0 r))
 
-  -- A zuniq overlaps what its cell overlaps.
-  pub overlaps-cell : {q : ℕ} (c : Cell) → IsZuniqOf K q (c .depth) (c .hash) → (z : ℕ) → overlaps K q z ≡ cellOverlaps K c z
-  unfolding overlaps isYes overlapTest overlapOf cellOverlaps cellOverlapsCell
-  overlaps-cell {q} c v z = rw (decodes K q c .1 v) (go (decode K z))
-    where
-      go : (r : Decoded) → isYes (overlapOf (Decoded.Cell c) r) ≡ cellOverlapsCell c r
-      go (Decoded.Cell e) = refl
-      go Decoded.Nothing = refl
-
   -- A zuniq is the sum of the two ends of its range.
   pub zuniq-sum : {z d h : ℕ} → IsZuniqOf K z d h → z ≡ start K d h + end K d h
   zuniq-sum {z} {d} {h} v = v .is ∙ zuniq-is-start-plus-end K d h
@@ -107,20 +94,3 @@ module _ {K : ℕ} where
     -- A zuniq is contained in those that it overlaps and that are no deeper.
     pub contains-shallower : e ≤ d → contains K y z ≡ overlaps K y z
     contains-shallower l = rw (contains-cells, overlaps-cells) (sym (overlap-shallower d h e g l))
-
-  module _ {c e : Cell} {q r : ZuniqRange} (a : IsRangeOf K c q) (b : IsRangeOf K e r) where
-    -- Two cells overlap exactly if each starts before the other ends.
-    overlap-iff-ranges-meet : (overlap (c .depth) (c .hash) (e .depth) (e .hash) ≡ true) ↔ ((q .start < r .end) × (r .start < q .end))
-    overlap-iff-ranges-meet =
-        let m = overlap-iff-meets K (c .depth) (c .hash) (e .depth) (e .hash) (a .deep) (b .deep) in
-        rw (a .starts, a .ends, b .starts, b .ends) (λ t. omega (arith, m .0 t), λ p. m .1 (omega arith))
-
-    -- So whether a cell overlaps a zuniq is told by two tests of their ranges.
-    pub cell-overlaps-ranges : (z : ℕ) → decode K z ≡ Decoded.Cell e → cellOverlaps K c z ≡ (ltb (q .start) (r .end) && ltb (r .start) (q .end))
-    unfolding cellOverlaps cellOverlapsCell
-    cell-overlaps-ranges z i = rw i (go (ltb (q .start) (r .end)) refl (ltb (r .start) (q .end)) refl)
-      where
-        go : (s : Bool) → ltb (q .start) (r .end) ≡ s → (t : Bool) → ltb (r .start) (q .end) ≡ t → overlap (c .depth) (c .hash) (e .depth) (e .hash) ≡ (s && t)
-        go true k true l = overlap-iff-ranges-meet .1 (ltb-true _ _ k, ltb-true _ _ l)
-        go true k false l = is-false _ (λ o. omega (arith, overlap-iff-ranges-meet .0 o, ltb-false))
-        go false k t l = is-false _ (λ o. omega (arith, overlap-iff-ranges-meet .0 o, ltb-false))

@@ -1,24 +1,24 @@
 -- What the loop of the map check has passed: the entries before place i have no fault, and the last of them is carried
 -- along with its end. Over any largest depth K. Assumes nothing.
 use mathlib.Core.Path.{_≡_, refl}
+use mathlib.Core.Bool.{false}
 use mathlib.Core.List.{List}
 use mathlib.Core.Option.{Option, none, some}
 use Prim.Native.Nat.{ℕ, suc, _+_, _*_, _≤_, _<_}
 use native.Mathlib.Numerals.{add-one}
 use native.Mathlib.Omega.{arith}
+use lib.Dec.{ltb}
 use lib.ListN.{length, getD, drop, drop-of-length-le}
 use lib.Seq.{drop-cons}
 use borrow.Author.Tests.{lt-ltb, le-ltb}
 use Rattle.zuniq.specs.Cells.{end}
-use Rattle.zuniq.specs.Codec.{IsZuniqOf, decode}
-use Rattle.zuniq.specs.declared.Cell.{Cell}
-use Rattle.zuniq.specs.declared.Decoded.{Decoded}
-use Rattle.zuniq.proofs.Codec.{decodes}
 use Rattle.mom.specs.declared.Fault.{Fault}
 use Rattle.mom.specs.declared.FirstFault.{FirstFault}
 use Rattle.mom.specs.declared.ZuniqRange.{ZuniqRange}
+use Rattle.mom.specs.declared.Ranged.{Ranged}
 use Rattle.mom.specs.Map.{faultAfter, faultOf, faultAt, atOr, faultFrom, firstFault}
-use Rattle.mom.specs.Range.{IsRangeOf}
+use Rattle.mom.specs.Range.{rangeOf}
+use Rattle.mom.proofs.Ranges.{HasRange, has-none}
 use Rattle.mom.proofs.Faults.{EndsAt, IsLast, no-fault-iff-starts-after, not-above-of-starts-before, overlapping-of-starts-before}
 
 -- the entry before place i, if there is one, is y, and b is twice its end
@@ -52,39 +52,39 @@ module _ {K D : ℕ} {zs : List ℕ} {y b i : ℕ} (p : Passed K D zs y b i) whe
     unfolding faultFrom
     next = rw (p .rest, drop-cons zs i 0 l) refl
 
-    pub not-zuniq-here : decode K z ≡ Decoded.Nothing → firstFault K D zs ≡ FirstFault.At i Fault.NotZuniq
+    pub not-zuniq-here : rangeOf K z ≡ Ranged.Nothing → firstFault K D zs ≡ FirstFault.At i Fault.NotZuniq
     unfolding atOr faultAt faultOf
-    not-zuniq-here e = rw (next, e) refl
+    not-zuniq-here e = rw (next, has-none K z e) refl
 
-    module _ {c : Cell} (e : decode K z ≡ Decoded.Cell c) where
-      pub too-deep-here : D < c .depth → firstFault K D zs ≡ FirstFault.At i Fault.TooDeep
+    module _ {r : ZuniqRange} (range : HasRange K z r) where
+      pub too-deep-here : D < r .depth → firstFault K D zs ≡ FirstFault.At i Fault.TooDeep
       unfolding atOr faultAt faultOf
-      too-deep-here m = rw (next, e, lt-ltb D (c .depth) m) refl
+      too-deep-here m = rw (next, range .decoded, lt-ltb D (range .cell .depth) (omega (arith, range .deep))) refl
 
-      module _ (m : c .depth ≤ D) {r : ZuniqRange} (range : IsRangeOf K c r) where
-        w : IsZuniqOf K z (c .depth) (c .hash)
-        w = decodes K z c .0 e
+      module _ (m : r .depth ≤ D) where
+        shallow : ltb D (range .cell .depth) ≡ false
+        shallow = le-ltb D (range .cell .depth) (omega (arith, range .deep))
 
         here : (f : Fault) → faultAfter K (p .before) z ≡ some f → firstFault K D zs ≡ FirstFault.At i f
         unfolding atOr faultAt faultOf
-        here f q = rw (next, e, le-ltb D (c .depth) m, q) refl
+        here f q = rw (next, range .decoded, shallow, q) refl
 
         pub not-above-here : r .start < b → z ≤ y → firstFault K D zs ≡ FirstFault.At i Fault.NotAbove
-        not-above-here s a = here Fault.NotAbove (not-above-of-starts-before w (p .before) (p .ends) (p .last) (omega (arith, range .starts, p .twice)) a)
+        not-above-here s a = here Fault.NotAbove (not-above-of-starts-before (range .valid) (p .before) (p .ends) (p .last) (omega (arith, range .starts, p .twice)) a)
 
         pub overlapping-here : r .start < b → y < z → firstFault K D zs ≡ FirstFault.At i Fault.Overlapping
-        overlapping-here s a = here Fault.Overlapping (overlapping-of-starts-before w (p .before) (p .ends) (p .last) (omega (arith, range .starts, p .twice)) a)
+        overlapping-here s a = here Fault.Overlapping (overlapping-of-starts-before (range .valid) (p .before) (p .ends) (p .last) (omega (arith, range .starts, p .twice)) a)
 
         pub passed-on : b ≤ r .start → Passed K D zs z (r .end) (i + 1)
         unfolding atOr faultAt faultOf
         passed-on s =
-            let q = no-fault-iff-starts-after w (p .before) (p .ends) .1 (omega (arith, range .starts, p .twice)) in
+            let q = no-fault-iff-starts-after (range .valid) (p .before) (p .ends) .1 (omega (arith, range .starts, p .twice)) in
             rw add-one (record {
               within = l;
               before = some z;
               last = refl;
-              end = end K (c .depth) (c .hash);
-              ends = (c .depth, c .hash, w, refl);
+              end = end K (range .cell .depth) (range .cell .hash);
+              ends = (range .cell .depth, range .cell .hash, range .valid, refl);
               twice = range .ends;
-              rest = rw (next, e, le-ltb D (c .depth) m, q) refl;
+              rest = rw (next, range .decoded, shallow, q) refl;
             })

@@ -7,11 +7,9 @@
 //
 // Refused: a depth over 29 (number 1).
 ghost use mathlib.Core.Path.{_≡_};
-ghost use Rattle.zuniq.specs.Codec.{IsZuniqOf};
 ghost use Rattle.mom.specs.Map.{firstFault, mapCheck};
-ghost use Rattle.mom.specs.Range.{IsRangeOf};
+ghost use Rattle.mom.specs.Range.{rangeOf};
 use refusal::Refusal;
-use zuniq::Cell;
 use zuniq::Decoded;
 use zuniq::Zuniq64;
 
@@ -36,8 +34,15 @@ pub enum FirstFault {
 // The range of a cell, in zuniqs: those of the cells that lie in it are between the two, and its own
 // is in the middle. Each is twice the hash, at the largest depth, at which the cell starts or ends.
 pub struct ZuniqRange {
+    pub depth: u8,
     pub start: u64,
     pub end: u64,
+}
+
+// The range of a zuniq's cell, or that there is none.
+pub enum Ranged {
+    Range(ZuniqRange),
+    Nothing,
 }
 
 // What the check answers.
@@ -71,13 +76,12 @@ pub fn first_fault(depth: u8, zuniqs: &[u64]) -> FirstFault
     let mut i = 0;
     while i < zuniqs.len() {
         let zuniq = zuniqs[i];
-        let Decoded::Cell(cell) = Zuniq64::from_zuniq(zuniq) else {
+        let Ranged::Range(range) = range_of(zuniq) else {
             return FirstFault::At(i, Fault::NotZuniq);
         };
-        if cell.depth > depth {
+        if range.depth > depth {
             return FirstFault::At(i, Fault::TooDeep);
         }
-        let range = range_of(zuniq, cell);
         if range.start < end_before {
             if zuniq <= zuniq_before {
                 return FirstFault::At(i, Fault::NotAbove);
@@ -91,14 +95,17 @@ pub fn first_fault(depth: u8, zuniqs: &[u64]) -> FirstFault
     FirstFault::Nothing
 }
 
-// The range of a cell whose zuniq is at hand.
-pub fn range_of(zuniq: u64, cell: Cell) -> ZuniqRange
-    requires { ⌜ IsZuniqOf 29 «zuniq» (cell .depth) (cell .hash) ⌝ }
-    ensures { λ r. ⌜ IsRangeOf 29 cell r ⌝ }
+// The range of the cell that a zuniq encodes. Half its width is a power of four.
+pub fn range_of(zuniq: u64) -> Ranged
+    ensures { λ r. ⌜ r ≡ rangeOf 29 «zuniq» ⌝ }
 {
+    let Decoded::Cell(cell) = Zuniq64::from_zuniq(zuniq) else {
+        return Ranged::Nothing;
+    };
     let half = 1 << (Zuniq64::DIM * (Zuniq64::MAX_DEPTH - cell.depth));
-    ZuniqRange {
+    Ranged::Range(ZuniqRange {
+        depth: cell.depth,
         start: zuniq - half,
         end: zuniq + half,
-    }
+    })
 }

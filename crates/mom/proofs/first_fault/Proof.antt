@@ -2,10 +2,9 @@
 -- is carried along with its end. The measure is what is left of the length. Assumes nothing.
 use mathlib.Core.Path.{sym, _∙_}
 use Prim.Native.Nat.{_-_}
-use native.Mathlib.Omega.{arith}
 use lib.ListN.{length}
 use borrow.Author.Needs.{needs}
-use Rattle.zuniq.proofs.Codec.{decodes}
+use Rattle.mom.proofs.Ranges.{has-range}
 use Rattle.mom.proofs.Passed.{Passed, passed-none, passed-all, not-zuniq-here, too-deep-here, not-above-here, overlapping-here, passed-on}
 use Rattle.mom.proofs.first_fault.Statement.{statement}
 use Rattle.mom.proofs.first_fault.Tie as tie
@@ -25,11 +24,11 @@ mul-zuniq c = search needs
 shared-slice-read-zuniq : tie.Need-shared-slice-read-zuniq Inv-loop μ-loop
 shared-slice-read-zuniq c = search needs
 
-from-zuniq-requires : tie.Need-from-zuniq-requires Inv-loop μ-loop
-from-zuniq-requires c κs = search needs
+range-of-requires : tie.Need-range-of-requires Inv-loop μ-loop
+range-of-requires c κs = search needs
 
-enum-known-cell : tie.Need-enum-known-cell Inv-loop μ-loop
-enum-known-cell c = search needs
+enum-known-range : tie.Need-enum-known-range Inv-loop μ-loop
+enum-known-range c = search needs
 
 enum-told : tie.Need-enum-told Inv-loop μ-loop
 enum-told c = search needs
@@ -37,34 +36,30 @@ enum-told c = search needs
 returns : tie.Need-returns Inv-loop μ-loop
 returns c =
     let turn = c .before .before .before .before in
-    sym (not-zuniq-here (turn .before .loop .inv) (omega (arith, turn .loop-test .taken)) (sym (c .before .before .from-zuniq .ensures) ∙ c .enum-told .given .1))
+    sym (not-zuniq-here (turn .before .loop .inv) (turn .loop-test .taken) (sym (c .before .before .range-of .ensures) ∙ c .enum-told .given .1))
 
 returns-2 : tie.Need-returns-2 Inv-loop μ-loop
 returns-2 c =
     let entry = c .before .before .before in
     let turn = entry .before .before .before .before in
-    sym (too-deep-here (turn .before .loop .inv) (omega (arith, turn .loop-test .taken)) (sym (entry .before .before .from-zuniq .ensures) ∙ entry .cell .given .1) (omega (arith, c .if1 .taken)))
-
-range-of-requires : tie.Need-range-of-requires Inv-loop μ-loop
-range-of-requires c κs =
-    let entry = c .before .before .before in
-    decodes 29 _ _ .0 (sym (entry .before .before .from-zuniq .ensures) ∙ entry .cell .given .1)
+    let range = has-range 29 _ _ (sym (entry .before .before .range-of .ensures) ∙ entry .range .given .1) in
+    sym (too-deep-here (turn .before .loop .inv) (turn .loop-test .taken) range (c .if1 .taken))
 
 returns-3 : tie.Need-returns-3 Inv-loop μ-loop
 returns-3 c =
-    let range = c .before .before .before in
-    let entry = range .before .before .before .before in
+    let deep = c .before .before .before in
+    let entry = deep .before .before .before in
     let turn = entry .before .before .before .before in
-    sym (not-above-here (turn .before .loop .inv) (omega (arith, turn .loop-test .taken)) (sym (entry .before .before .from-zuniq .ensures) ∙ entry .cell .given .1)
-    (omega (arith, range .before .if1 .left)) (range .range-of .ensures) (c .before .if2 .taken) (omega (arith, c .if3 .taken)))
+    let range = has-range 29 _ _ (sym (entry .before .before .range-of .ensures) ∙ entry .range .given .1) in
+    sym (not-above-here (turn .before .loop .inv) (turn .loop-test .taken) range (deep .if1 .left) (c .before .if2 .taken) (c .if3 .taken))
 
 returns-4 : tie.Need-returns-4 Inv-loop μ-loop
 returns-4 c =
-    let range = c .before .before .before in
-    let entry = range .before .before .before .before in
+    let deep = c .before .before .before in
+    let entry = deep .before .before .before in
     let turn = entry .before .before .before .before in
-    sym (overlapping-here (turn .before .loop .inv) (omega (arith, turn .loop-test .taken)) (sym (entry .before .before .from-zuniq .ensures) ∙ entry .cell .given .1)
-    (omega (arith, range .before .if1 .left)) (range .range-of .ensures) (c .before .if2 .taken) (omega (arith, c .if3 .left)))
+    let range = has-range 29 _ _ (sym (entry .before .before .range-of .ensures) ∙ entry .range .given .1) in
+    sym (overlapping-here (turn .before .loop .inv) (turn .loop-test .taken) range (deep .if1 .left) (c .before .if2 .taken) (c .if3 .left))
 
 add-i : tie.Need-add-i Inv-loop μ-loop
 add-i c = search needs
@@ -74,14 +69,14 @@ loop-less c = search needs
 
 loop-again : tie.Need-loop-again Inv-loop μ-loop
 loop-again c =
-    let range = c .before .before in
-    let entry = range .before .before .before .before in
+    let deep = c .before .before in
+    let entry = deep .before .before .before in
     let turn = entry .before .before .before .before in
-    passed-on (turn .before .loop .inv) (omega (arith, turn .loop-test .taken)) (sym (entry .before .before .from-zuniq .ensures) ∙ entry .cell .given .1)
-    (omega (arith, range .before .if1 .left)) (range .range-of .ensures) (c .if2 .left)
+    let range = has-range 29 _ _ (sym (entry .before .before .range-of .ensures) ∙ entry .range .given .1) in
+    passed-on (turn .before .loop .inv) (turn .loop-test .taken) range (deep .if1 .left) (c .if2 .left)
 
 returns-5 : tie.Need-returns-5 Inv-loop μ-loop
-returns-5 c = sym (passed-all (c .before .loop .inv) (omega (arith, c .loop-test .left)))
+returns-5 c = sym (passed-all (c .before .loop .inv) (c .loop-test .left))
 
 pub first-fault-spec : {M : Type 1} → statement M
 first-fault-spec =
@@ -92,12 +87,11 @@ first-fault-spec =
     loop-holds
     mul-zuniq
     shared-slice-read-zuniq
-    from-zuniq-requires
-    enum-known-cell
+    range-of-requires
+    enum-known-range
     enum-told
     returns
     returns-2
-    range-of-requires
     returns-3
     returns-4
     add-i
