@@ -21,11 +21,11 @@ use map_words::pattern_density_word;
 use map_words::rows_word;
 use refusal::Refusal;
 use rows::Rows;
-use rows_read::read_count_rows;
-use rows_read::read_density_rows;
-use rows_read::read_zuniqs;
-use rows_write::write_count_rows;
-use rows_write::write_density_rows;
+use rows::read_count_rows;
+use rows::read_density_rows;
+use rows::read_zuniqs;
+use rows::write_count_rows;
+use rows::write_density_rows;
 use words::refused;
 use zuniq::Zuniq64;
 

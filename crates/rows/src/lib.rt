@@ -2,8 +2,8 @@
 //
 // A map on disk is rows of bytes, one for each entry, with no header: the zuniq in 8 bytes, then
 // the count in 4 or the density in 8, each little-endian. So count rows have 12 bytes and density
-// rows 16. `rows_read` reads both into two lent buffers, zuniqs and values, and `rows_write` writes
-// them from two. Every call answers the number of rows. Rows are not checked as maps.
+// rows 16. They are read into two lent buffers, zuniqs and values, and written from two. Every call
+// answers the number of rows. Rows are not checked as maps.
 //
 // A density goes through rows as its 64-bit pattern: the language's f64 has one NaN, without a
 // pattern, and rows give back every pattern. The crate `density` turns a pattern into a density.
@@ -11,9 +11,19 @@
 // Refused: paired buffers that differ in length, and bytes to be read that are no whole number of
 // rows (number 4), then too little space (11). A refusal touches nothing; what is past the rows
 // stays as it was.
+ghost use mathlib.Core.Path.{_≡_};
+ghost use mathlib.Core.List.{[], _∷_};
+ghost use Prim.Native.Nat.{_*_, _^_, _<_};
+ghost use Rattle.rows.specs.Rows.{countRows, densityRows, rowsToRead, readRows, readZuniqs, rowsToWrite, writeRows};
 use refusal::Refusal;
 
-pub mod little_endian;
+mod columns;
+mod little_endian;
+
+use columns::read_u32_column;
+use columns::read_u64_column;
+use little_endian::put_u32;
+use little_endian::put_u64;
 
 // How many rows were read or written.
 pub enum Rows {
@@ -22,9 +32,111 @@ pub enum Rows {
 }
 
 // The bytes of a row: a zuniq, then a count or a density.
-pub const COUNT_ROW: usize = 12;
+const COUNT_ROW: usize = 12;
 
-pub const DENSITY_ROW: usize = 16;
+const DENSITY_ROW: usize = 16;
 
 // The byte of a row at which the value starts.
-pub const VALUE: usize = 8;
+const VALUE: usize = 8;
+
+// How many rows of this size a number of bytes is, where the buffers have places for all of them.
+fn rows_to_read(row_size: usize, bytes: usize, zuniqs: usize, values: usize) -> Rows
+    requires { ⌜ 0 < «row_size» ⌝ }
+    ensures { λ r. ⌜ r ≡ rowsToRead «row_size» bytes (zuniqs ∷ values ∷ []) ⌝ }
+{
+    if zuniqs != values {
+        return Rows::Refused(Refusal::LengthMismatch);
+    }
+    if bytes % row_size != 0 {
+        return Rows::Refused(Refusal::LengthMismatch);
+    }
+    if zuniqs < bytes / row_size {
+        return Rows::Refused(Refusal::NoSpace);
+    }
+    Rows::Rows(bytes / row_size)
+}
+
+pub fn read_count_rows(bytes: &[u8], zuniqs: &mut [u64], counts: &mut [u32]) -> Rows
+    ensures { λ r. ⌜ (r, countRows (now (zuniqs .exit)) (now (counts .exit))) ≡ readRows (countRows (now (zuniqs .entry)) (now (counts .entry))) (now (bytes .entry)) ⌝ }
+{
+    let answer = rows_to_read(COUNT_ROW, bytes.len(), zuniqs.len(), counts.len());
+    let Rows::Rows(rows) = answer else {
+        return answer;
+    };
+    read_u64_column(bytes, COUNT_ROW, 0, rows, zuniqs);
+    read_u32_column(bytes, COUNT_ROW, VALUE, rows, counts);
+    answer
+}
+
+// The zuniqs of count rows, for callers who look at no count.
+pub fn read_zuniqs(bytes: &[u8], zuniqs: &mut [u64]) -> Rows
+    ensures { λ r. ⌜ (r, now (zuniqs .exit)) ≡ readZuniqs (now (zuniqs .entry)) (now (bytes .entry)) ⌝ }
+{
+    let places = zuniqs.len();
+    let answer = rows_to_read(COUNT_ROW, bytes.len(), places, places);
+    let Rows::Rows(rows) = answer else {
+        return answer;
+    };
+    read_u64_column(bytes, COUNT_ROW, 0, rows, zuniqs);
+    answer
+}
+
+pub fn read_density_rows(bytes: &[u8], zuniqs: &mut [u64], patterns: &mut [u64]) -> Rows
+    ensures { λ r. ⌜ (r, densityRows (now (zuniqs .exit)) (now (patterns .exit))) ≡ readRows (densityRows (now (zuniqs .entry)) (now (patterns .entry))) (now (bytes .entry)) ⌝ }
+{
+    let answer = rows_to_read(DENSITY_ROW, bytes.len(), zuniqs.len(), patterns.len());
+    let Rows::Rows(rows) = answer else {
+        return answer;
+    };
+    read_u64_column(bytes, DENSITY_ROW, 0, rows, zuniqs);
+    read_u64_column(bytes, DENSITY_ROW, VALUE, rows, patterns);
+    answer
+}
+
+// How many rows of this size the buffers make, where there are bytes for all of them.
+fn rows_to_write(row_size: usize, bytes: usize, zuniqs: usize, values: usize) -> Rows
+    requires { ⌜ zuniqs * «row_size» < 2 ^ 64 ⌝ }
+    ensures { λ r. ⌜ r ≡ rowsToWrite «row_size» bytes (zuniqs ∷ values ∷ []) ⌝ }
+{
+    if zuniqs != values {
+        return Rows::Refused(Refusal::LengthMismatch);
+    }
+    if bytes < zuniqs * row_size {
+        return Rows::Refused(Refusal::NoSpace);
+    }
+    Rows::Rows(zuniqs)
+}
+
+pub fn write_count_rows(zuniqs: &[u64], counts: &[u32], bytes: &mut [u8]) -> Rows
+    ensures { λ r. ⌜ (r, now (bytes .exit)) ≡ writeRows (countRows (now (zuniqs .entry)) (now (counts .entry))) (now (bytes .entry)) ⌝ }
+{
+    let answer = rows_to_write(COUNT_ROW, bytes.len(), zuniqs.len(), counts.len());
+    let Rows::Rows(rows) = answer else {
+        return answer;
+    };
+    let mut row = 0;
+    while row < rows {
+        let at = row * COUNT_ROW;
+        put_u64(bytes, at, zuniqs[row]);
+        put_u32(bytes, at + VALUE, counts[row]);
+        row += 1;
+    }
+    answer
+}
+
+pub fn write_density_rows(zuniqs: &[u64], patterns: &[u64], bytes: &mut [u8]) -> Rows
+    ensures { λ r. ⌜ (r, now (bytes .exit)) ≡ writeRows (densityRows (now (zuniqs .entry)) (now (patterns .entry))) (now (bytes .entry)) ⌝ }
+{
+    let answer = rows_to_write(DENSITY_ROW, bytes.len(), zuniqs.len(), patterns.len());
+    let Rows::Rows(rows) = answer else {
+        return answer;
+    };
+    let mut row = 0;
+    while row < rows {
+        let at = row * DENSITY_ROW;
+        put_u64(bytes, at, zuniqs[row]);
+        put_u64(bytes, at + VALUE, patterns[row]);
+        row += 1;
+    }
+    answer
+}

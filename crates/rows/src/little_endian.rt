@@ -12,21 +12,21 @@ fn u32_from_le_bytes(b0: u8, b1: u8, b2: u8, b3: u8) -> u32
     b0 as u32 + 0x100 * b1 as u32 + 0x1_0000 * b2 as u32 + 0x100_0000 * b3 as u32
 }
 
-pub fn u32_at(bytes: &[u8], at: usize) -> u32
+pub(crate) fn u32_at(bytes: &[u8], at: usize) -> u32
     requires { ⌜ at + 4 ≤ length (now bytes) ⌝ }
     ensures { λ r. ⌜ r ≡ fromLeBytes (take 4 (drop at (now (bytes .entry)))) ⌝ }
 {
     u32_from_le_bytes(bytes[at], bytes[at + 1], bytes[at + 2], bytes[at + 3])
 }
 
-pub fn u64_at(bytes: &[u8], at: usize) -> u64
+pub(crate) fn u64_at(bytes: &[u8], at: usize) -> u64
     requires { ⌜ at + 8 ≤ length (now bytes) ⌝ }
     ensures { λ r. ⌜ r ≡ fromLeBytes (take 8 (drop at (now (bytes .entry)))) ⌝ }
 {
     u32_at(bytes, at) as u64 + 0x1_0000_0000 * u32_at(bytes, at + 4) as u64
 }
 
-pub fn put_u32(bytes: &mut [u8], at: usize, n: u32)
+pub(crate) fn put_u32(bytes: &mut [u8], at: usize, n: u32)
     requires { ⌜ at + 4 ≤ length (now bytes) ⌝ }
     ensures { λ _. ⌜ now (bytes .exit) ≡ put at (toLeBytes 4 n) (now (bytes .entry)) ⌝ }
 {
@@ -36,7 +36,7 @@ pub fn put_u32(bytes: &mut [u8], at: usize, n: u32)
     bytes[at + 3] = (n / 0x100_0000) as u8;
 }
 
-pub fn put_u64(bytes: &mut [u8], at: usize, n: u64)
+pub(crate) fn put_u64(bytes: &mut [u8], at: usize, n: u64)
     requires { ⌜ at + 8 ≤ length (now bytes) ⌝ }
     ensures { λ _. ⌜ now (bytes .exit) ≡ put at (toLeBytes 8 n) (now (bytes .entry)) ⌝ }
 {

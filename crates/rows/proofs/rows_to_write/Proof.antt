@@ -4,9 +4,9 @@ use Prim.Native.Nat.{_*_}
 use native.Mathlib.Omega.{arith}
 use borrow.Author.Tests.{lt-ltb, le-ltb, eq-eqb, ne-eqb}
 use borrow.Author.Needs.{needs}
 use Rattle.rows.specs.Rows.{differ, othersDiffer, places, rowsToWrite}
-use Rattle.rows_write.proofs.rows_to_write.Statement.{statement}
-use Rattle.rows_write.proofs.rows_to_write.Tie as tie
+use Rattle.rows.proofs.rows_to_write.Statement.{statement}
+use Rattle.rows.proofs.rows_to_write.Tie as tie
 
 returns : tie.Need-returns
 unfolding differ othersDiffer rowsToWrite

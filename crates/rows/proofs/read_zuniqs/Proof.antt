@@ -2,9 +2,9 @@
 use mathlib.Core.Path.{sym, _∙_}
 use native.Mathlib.Omega.{arith}
 use borrow.Author.Needs.{needs}
 use Rattle.rows.proofs.Zuniqs.{read-zuniqs-refused, read-zuniqs-fits, read-zuniqs-read}
-use Rattle.rows_read.proofs.read_zuniqs.Statement.{statement}
-use Rattle.rows_read.proofs.read_zuniqs.Tie as tie
+use Rattle.rows.proofs.read_zuniqs.Statement.{statement}
+use Rattle.rows.proofs.read_zuniqs.Tie as tie
 
 rows-to-read-requires : tie.Need-rows-to-read-requires
 rows-to-read-requires c κs = search needs

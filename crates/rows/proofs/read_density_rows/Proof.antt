@@ -1,10 +1,10 @@
--- `read_count_rows` meets its contract: it reads two columns, of 8 and 4 bytes. Assumes nothing.
+-- `read_density_rows` meets its contract: it reads two columns, of 8 bytes each. Assumes nothing.
 use mathlib.Core.Path.{sym, _∙_}
 use native.Mathlib.Omega.{arith}
 use borrow.Author.Needs.{needs}
 use Rattle.rows.proofs.Loops.{read-pair, read-pair-fits, read-pair-refused}
-use Rattle.rows_read.proofs.read_count_rows.Statement.{statement}
-use Rattle.rows_read.proofs.read_count_rows.Tie as tie
+use Rattle.rows.proofs.read_density_rows.Statement.{statement}
+use Rattle.rows.proofs.read_density_rows.Tie as tie
 
 rows-to-read-requires : tie.Need-rows-to-read-requires
 rows-to-read-requires c κs = search needs
@@ -19,22 +19,22 @@ returns : tie.Need-returns
 returns c =
     let a = c .before .before .before .before .before .before .args in
     let refused = sym (c .before .before .rows-to-read .ensures) ∙ c .enum-told .given .1 in
-    rw (c .enum-told .given .1) (read-pair-refused 8 4 (a .bytes .now) (a .zuniqs .now) (a .counts .now) _ refused)
+    rw (c .enum-told .given .1) (read-pair-refused 8 8 (a .bytes .now) (a .zuniqs .now) (a .patterns .now) _ refused)
 
 read-u64-column-requires : tie.Need-read-u64-column-requires
 read-u64-column-requires c κs =
     let a = c .before .before .before .before .before .before .before .before .args in
     let answer = c .before .before .answer in
     let rows = sym (c .before .before .before .before .rows-to-read .ensures) ∙ answer .given .1 in
-    let fits = read-pair-fits 8 4 (a .bytes .now) (a .zuniqs .now) (a .counts .now) (answer .given .0 .0) rows in
+    let fits = read-pair-fits 8 8 (a .bytes .now) (a .zuniqs .now) (a .patterns .now) (answer .given .0 .0) rows in
     (omega arith, fits .0, fits .1)
 
-read-u32-column-requires : tie.Need-read-u32-column-requires
-read-u32-column-requires c κs =
+read-u64-column-requires-2 : tie.Need-read-u64-column-requires-2
+read-u64-column-requires-2 c κs =
     let a = c .before .before .before .before .before .before .before .before .before .before .before .before .args in
     let answer = c .before .before .before .before .before .before .answer in
     let rows = sym (c .before .before .before .before .before .before .before .before .rows-to-read .ensures) ∙ answer .given .1 in
-    let fits = read-pair-fits 8 4 (a .bytes .now) (a .zuniqs .now) (a .counts .now) (answer .given .0 .0) rows in
+    let fits = read-pair-fits 8 8 (a .bytes .now) (a .zuniqs .now) (a .patterns .now) (answer .given .0 .0) rows in
     (omega arith, fits .0, fits .2)
 
 same-length : tie.Need-same-length
@@ -48,11 +48,11 @@ returns-2 c =
     let a = c .before .before .before .before .before .before .before .before .before .before .before .before .before .before .before .args in
     let answer = c .before .before .before .before .before .before .before .before .before .answer in
     let rows = sym (c .before .before .before .before .before .before .before .before .before .before .before .rows-to-read .ensures) ∙ answer .given .1 in
-    let columns = read-pair 8 4 (a .bytes .now) (a .zuniqs .now) (a .counts .now) (answer .given .0 .0) rows in
-    rw (c .before .before .before .before .before .before .read-u64-column .ensures, c .before .before .read-u32-column .ensures) columns
+    let columns = read-pair 8 8 (a .bytes .now) (a .zuniqs .now) (a .patterns .now) (answer .given .0 .0) rows in
+    rw (c .before .before .before .before .before .before .read-u64-column .ensures, c .before .before .read-u64-column2 .ensures) columns
 
-pub read-count-rows-spec : {M : Type 1} → statement M
-read-count-rows-spec =
+pub read-density-rows-spec : {M : Type 1} → statement M
+read-density-rows-spec =
     tie.close
     (tie.spec
     rows-to-read-requires
@@ -60,7 +60,7 @@ read-count-rows-spec =
     enum-told
     returns
     read-u64-column-requires
-    read-u32-column-requires
+    read-u64-column-requires-2
     same-length
     same-length-2
     returns-2)

@@ -4,9 +4,9 @@ use Prim.Native.Nat.{_/_}
 use native.Mathlib.Omega.{arith}
 use borrow.Author.Tests.{lt-ltb, le-ltb, eq-eqb, ne-eqb}
 use borrow.Author.Needs.{needs}
 use Rattle.rows.specs.Rows.{differ, othersDiffer, places, rowsToRead}
-use Rattle.rows_read.proofs.rows_to_read.Statement.{statement}
-use Rattle.rows_read.proofs.rows_to_read.Tie as tie
+use Rattle.rows.proofs.rows_to_read.Statement.{statement}
+use Rattle.rows.proofs.rows_to_read.Tie as tie
 
 returns : tie.Need-returns
 unfolding differ othersDiffer rowsToRead

@@ -5,9 +5,9 @@ ghost use mathlib.Core.Path.{_≡_};
 ghost use mathlib.Core.List.{_++_};
 ghost use Prim.Native.Nat.{_+_, _*_, _≤_};
 ghost use lib.ListN.{length, drop};
 ghost use Rattle.rows.specs.Rows.{numbersIn};
-use rows::little_endian::u32_at;
-use rows::little_endian::u64_at;
+use crate::little_endian::u32_at;
+use crate::little_endian::u64_at;
 
 pub(crate) fn read_u32_column(
     bytes: &[u8],

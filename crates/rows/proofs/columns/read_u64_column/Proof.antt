@@ -1,9 +1,9 @@
 -- `read_u64_column` meets its contract. The loop is that of `Reading`, at 8 bytes. Assumes nothing.
 use Prim.Native.Nat.{_-_}
 use native.Mathlib.Omega.{arith}
 use Rattle.rows.proofs.Loops.{Reading, reading-start, reading-length, reading-inside, reading-turn, reading-end}
-use Rattle.rows_read.proofs.columns.read_u64_column.Statement.{statement}
-use Rattle.rows_read.proofs.columns.read_u64_column.Tie as tie
+use Rattle.rows.proofs.columns.read_u64_column.Statement.{statement}
+use Rattle.rows.proofs.columns.read_u64_column.Tie as tie
 
 abbrev Inv-loop : tie.InvT-loop
 Inv-loop bytes row-size at rows numbers₀ row₀ numbers row = Reading row-size at 8 bytes numbers₀ rows numbers row
