@@ -1,13 +1,14 @@
 -- When rows are accepted: what the lengths then are, that nothing else is asked, and what the call did. Assumes nothing.
 use mathlib.Core.Path.{_≡_, refl, ap, sym}
 use mathlib.Core.Bool.{Bool, true, false, not, _||_, cond, false≢true}
+use mathlib.Core.Logic.{_⊎_, inl, inr}
 use mathlib.Core.List.{List, [], _∷_, _++_}
 use Prim.{Unit}
-use Prim.Native.Nat.{ℕ, _*_, _/_, _%_, _≤_}
+use Prim.Native.Nat.{ℕ, _*_, _/_, _%_, _≤_, _<_}
 use native.Mathlib.Omega.{arith}
 use lib.Dec.{eqb, ltb}
 use lib.ListN.{length, drop}
-use borrow.Author.Tests.{le-ltb, ltb-false, eq-eqb, eqb-true}
+use borrow.Author.Tests.{lt-ltb, le-ltb, ltb-false, eq-eqb, ne-eqb, eqb-true}
 use Rattle.refusal.specs.declared.Refusal.{Refusal}
 use Rattle.rows.specs.declared.Rows.{Rows}
 use Rattle.rows.specs.Rows.{Column, rowSize, rowsBytes, filled, lengths, othersDiffer, differ, places, rowsToRead, rowsToWrite, readAs, readRows, writeAs, writeRows}
@@ -42,6 +43,26 @@ pub reads : (k bytes : ℕ) (ls : List ℕ) (n : ℕ) → Readable k bytes ls n 
 unfolding rowsToRead
 reads k bytes ls n a =
     rw (a .paired, eq-eqb (bytes % k) 0 (a .even), le-ltb (places ls) (bytes / k) (a .space)) (ap Rows.Rows (a .rows))
+
+-- What reading into two buffers answers, by what is wrong with them.
+module _ (k bytes n m : ℕ) where
+  pub read-mismatch : ((n ≡ m → ⊥) ⊎ (bytes % k ≡ 0 → ⊥)) → rowsToRead k bytes (n ∷ m ∷ []) ≡ Rows.Refused Refusal.LengthMismatch
+  unfolding rowsToRead differ othersDiffer
+  read-mismatch (inl apart) = rw (ne-eqb n m apart) refl
+  read-mismatch (inr uneven) = rw (ne-eqb (bytes % k) 0 uneven) (go (eqb n m))
+    where
+      go : (b : Bool) → cond (not b || false) (Rows.Refused Refusal.LengthMismatch) (Rows.Refused Refusal.LengthMismatch) ≡ Rows.Refused Refusal.LengthMismatch
+      go true = refl
+      go false = refl
+
+  module _ (paired : n ≡ m) (even : bytes % k ≡ 0) where
+    pub read-no-space : n < bytes / k → rowsToRead k bytes (n ∷ m ∷ []) ≡ Rows.Refused Refusal.NoSpace
+    unfolding rowsToRead differ othersDiffer places
+    read-no-space l = rw (eq-eqb n m paired, eq-eqb (bytes % k) 0 even, lt-ltb n (bytes / k) l) refl
+
+    pub read-all : bytes / k ≤ n → rowsToRead k bytes (n ∷ m ∷ []) ≡ Rows.Rows (bytes / k)
+    unfolding rowsToRead differ othersDiffer places
+    read-all l = rw (eq-eqb n m paired, eq-eqb (bytes % k) 0 even, le-ltb n (bytes / k) l) refl
 
 -- ---- writing
 

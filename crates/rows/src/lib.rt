@@ -12,18 +12,19 @@
 // rows (number 4), then too little space (11). A refusal touches nothing; what is past the rows
 // stays as it was.
 ghost use mathlib.Core.Path.{_≡_};
-ghost use mathlib.Core.List.{[], _∷_};
-ghost use Prim.Native.Nat.{_*_, _^_, _<_};
-ghost use Rattle.rows.specs.Rows.{countRows, densityRows, rowsToRead, readRows, readZuniqs, rowsToWrite, writeRows};
+ghost use Rattle.rows.specs.Rows.{countRows, densityRows, readRows, readZuniqs, writeRows};
 use refusal::Refusal;
 
-mod columns;
 mod little_endian;
+mod reading;
+mod writing;
 
-use columns::read_u32_column;
-use columns::read_u64_column;
 use little_endian::put_u32;
 use little_endian::put_u64;
+use reading::read_u32_column;
+use reading::read_u64_column;
+use reading::rows_to_read;
+use writing::rows_to_write;
 
 // How many rows were read or written.
 pub enum Rows {
@@ -38,23 +39,6 @@ const DENSITY_ROW: usize = 16;
 
 // The byte of a row at which the value starts.
 const VALUE: usize = 8;
-
-// How many rows of this size a number of bytes is, where the buffers have places for all of them.
-fn rows_to_read(row_size: usize, bytes: usize, zuniqs: usize, values: usize) -> Rows
-    requires { ⌜ 0 < «row_size» ⌝ }
-    ensures { λ r. ⌜ r ≡ rowsToRead «row_size» bytes (zuniqs ∷ values ∷ []) ⌝ }
-{
-    if zuniqs != values {
-        return Rows::Refused(Refusal::LengthMismatch);
-    }
-    if bytes % row_size != 0 {
-        return Rows::Refused(Refusal::LengthMismatch);
-    }
-    if zuniqs < bytes / row_size {
-        return Rows::Refused(Refusal::NoSpace);
-    }
-    Rows::Rows(bytes / row_size)
-}
 
 pub fn read_count_rows(bytes: &[u8], zuniqs: &mut [u64], counts: &mut [u32]) -> Rows
     ensures { λ r. ⌜ (r, countRows (now (zuniqs .exit)) (now (counts .exit))) ≡ readRows (countRows (now (zuniqs .entry)) (now (counts .entry))) (now (bytes .entry)) ⌝ }
@@ -91,20 +75,6 @@ pub fn read_density_rows(bytes: &[u8], zuniqs: &mut [u64], patterns: &mut [u64])
     read_u64_column(bytes, DENSITY_ROW, 0, rows, zuniqs);
     read_u64_column(bytes, DENSITY_ROW, VALUE, rows, patterns);
     answer
-}
-
-// How many rows of this size the buffers make, where there are bytes for all of them.
-fn rows_to_write(row_size: usize, bytes: usize, zuniqs: usize, values: usize) -> Rows
-    requires { ⌜ zuniqs * «row_size» < 2 ^ 64 ⌝ }
-    ensures { λ r. ⌜ r ≡ rowsToWrite «row_size» bytes (zuniqs ∷ values ∷ []) ⌝ }
-{
-    if zuniqs != values {
-        return Rows::Refused(Refusal::LengthMismatch);
-    }
-    if bytes < zuniqs * row_size {
-        return Rows::Refused(Refusal::NoSpace);
-    }
-    Rows::Rows(zuniqs)
 }
 
 pub fn write_count_rows(zuniqs: &[u64], counts: &[u32], bytes: &mut [u8]) -> Rows
