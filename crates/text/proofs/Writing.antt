@@ -6,20 +6,46 @@ use native.Mathlib.Omega.{arith}
 use native.Mathlib.Numerals.{add-one}
 use lib.ListN.{length, take, drop, set, getD, length-append, length-take}
 use lib.Seq.{paste, paste-suc, length-paste, take-paste, drop-paste, take-length, drop-drop}
-use Rattle.text.specs.Text.{Written}
+use borrow.Author.Tests.{le-leb, lt-leb}
+use Rattle.text.specs.Text.{putAt, Written}
 
 -- One byte more.
 pub paste-next : (d : List ℕ) (at : ℕ) (s : List ℕ) (i : ℕ) → at + i < length d → i < length s → set (paste d at s i) (at + i) (getD s i 0) ≡ paste d at s (i + 1)
 paste-next d at s i p q = rw (add-one i) (paste-suc d at s i 0 p q)
 
--- All of them.
-pub pasted : (d : List ℕ) (at : ℕ) (s e : List ℕ) (i : ℕ) → at + i ≤ length d → i ≡ length s → e ≡ paste d at s i → Written d at s e (at + i)
-pasted d at s e i p q r = record {
-  same-length = ap length r ∙ length-paste d at s i p (omega arith);
-  end-is = ap (λ k. at + k) q;
-  front = ap (take (at + i)) r ∙ take-paste d at s i (omega arith) (omega arith) ∙ rw (q, take-length s) refl;
-  rest = ap (drop (at + i)) r ∙ drop-paste d at s i (omega arith) (omega arith);
+-- A text that fits.
+pub put-fits : (d : List ℕ) (at : ℕ) (t : List ℕ) → at + length t ≤ length d → ((take at d ++ t) ++ drop (at + length t) d, at + length t) ≡ putAt d at t
+unfolding putAt
+put-fits d at t p = rw (le-leb (at + length t) (length d) p) refl
+
+-- One that doesn't.
+pub put-beyond : (d : List ℕ) (at : ℕ) (t : List ℕ) → length d < at + length t → (d, at) ≡ putAt d at t
+unfolding putAt
+put-beyond d at t p = rw (lt-leb (at + length t) (length d) p) refl
+
+-- All of its bytes.
+pub pasted : (d : List ℕ) (at : ℕ) (t e : List ℕ) (i : ℕ) → at + i ≤ length d → i ≡ length t → e ≡ paste d at t i → (e, at + i) ≡ putAt d at t
+pasted d at t e i p q r =
+    let whole : e ≡ (take at d ++ t) ++ drop (at + length t) d = r ∙ rw (q, take-length t) refl in
+    rw (whole, q) (put-fits d at t (omega arith))
+
+-- What fits is written.
+pub put-written : {d e t : List ℕ} {at m : ℕ} → at + length t ≤ length d → (e, m) ≡ putAt d at t → Written d at t e m
+put-written {d} {e} {t} {at} {m} p q = record {
+  same-length = ap length whole ∙ length-paste d at t (length t) p (omega arith);
+  end-is = end;
+  front = rw end (ap (take (at + length t)) whole ∙ take-paste d at t (length t) (omega arith) (omega arith) ∙ rw (take-length t) refl);
+  rest = rw end (ap (drop (at + length t)) whole ∙ drop-paste d at t (length t) (omega arith) (omega arith));
 }
+  where
+    both : _≡_ {A = List ℕ × ℕ} (e, m) ((take at d ++ t) ++ drop (at + length t) d, at + length t)
+    both = q ∙ sym (put-fits d at t p)
+
+    whole : e ≡ paste d at t (length t)
+    whole = ap (λ (x : List ℕ × ℕ). x .0) both ∙ rw (take-length t) refl
+
+    end : m ≡ at + length t
+    end = ap (λ (x : List ℕ × ℕ). x .1) both
 
 -- Nothing written.
 pub written-nothing : (d : List ℕ) (at : ℕ) → Written d at [] d at

@@ -62,6 +62,12 @@ digitsUpTo (suc k) n = cond (ltb n 10) ((48 + n) ∷ []) (digitsUpTo k (n / 10) 
 unfoldable pub decimal : ℕ → List ℕ
 decimal n = digitsUpTo 20 n
 
+-- a buffer with a text written into it at a place, and the place behind the text; where the text does not fit, the buffer as it was and the
+-- place itself
+unfoldable pub putAt : List ℕ → ℕ → List ℕ → List ℕ × ℕ
+putAt buffer at text =
+    cond (leb (at + length text) (length buffer)) ((take at buffer ++ text) ++ drop (at + length text) buffer, at + length text) (buffer, at)
+
 -- What a buffer holds once a text is written into it at a place: the text there, and all else as it was.
 pub record Written (before : List ℕ) (at : ℕ) (text after : List ℕ) (end : ℕ) : Type 0 where
   pub same-length : length after ≡ length before

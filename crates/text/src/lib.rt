@@ -3,12 +3,11 @@
 //
 // A number is read from a field of 1 to 20 digits, and is unreadable where it is larger than its
 // field allows. It is written with its digits alone. What is written goes to a place of a lent
-// buffer, and each call answers the place behind it.
+// buffer, and each call answers the place behind it. What does not fit there is not written, not
+// even its first bytes.
 ghost use mathlib.Core.Path.{_≡_};
-ghost use Prim.Native.Nat.{_+_, _*_, _≤_};
-ghost use lib.ListN.{length};
 ghost use Rattle.io.specs.Counts.{Counts};
-ghost use Rattle.text.specs.Text.{position, number, longer as longerOf, decimal, Written};
+ghost use Rattle.text.specs.Text.{position, number, longer as longerOf, decimal, putAt};
 
 // The byte that ends a line, and the one that parts its fields.
 pub const LF: u8 = b'\n';
@@ -38,7 +37,6 @@ pub fn find(text: &[u8], byte: u8) -> usize
 
 // The number of a field, at most `most`.
 pub fn read_number(field: &[u8], most: u64) -> Number
-    requires { ⌜ 9 ≤ most ⌝ }
     ensures { λ r. ⌜ r ≡ number most (now (field .entry)) ⌝ }
 {
     if field.len() == 0 {
@@ -61,7 +59,6 @@ pub fn read_number(field: &[u8], most: u64) -> Number
 
 // A number with one more digit behind it, if that is one and the number is not too large.
 fn with_digit(value: u64, digit: u8, most: u64) -> Number
-    requires { ⌜ 9 ≤ most ⌝ }
     ensures { λ r. ⌜ r ≡ longerOf most «value» «digit» ⌝ }
 {
     if digit < b'0' {
@@ -71,6 +68,9 @@ fn with_digit(value: u64, digit: u8, most: u64) -> Number
         return Number::Unreadable;
     }
     let units = (digit - b'0') as u64;
+    if units > most {
+        return Number::Unreadable;
+    }
     // The product could wrap; the quotient can't.
     if value > (most - units) / 10 {
         return Number::Unreadable;
@@ -78,11 +78,17 @@ fn with_digit(value: u64, digit: u8, most: u64) -> Number
     Number::Value(10 * value + units)
 }
 
-// Writes a text at a place.
+// Writes a text at a place, if it fits there.
 pub fn put(output: &mut [u8], at: usize, text: &[u8]) -> usize
-    requires { ⌜ at + length (now text) ≤ length (now output) ⌝ }
-    ensures { λ r. ⌜ Written (now (output .entry)) at (now (text .entry)) (now (output .exit)) r ⌝ }
+    ensures { λ r. ⌜ (now (output .exit), r) ≡ putAt (now (output .entry)) at (now (text .entry)) ⌝ }
 {
+    if at > output.len() {
+        return at;
+    }
+    // The sum of place and length could wrap; the space behind the place can't.
+    if text.len() > output.len() - at {
+        return at;
+    }
     let mut i = 0;
     while i < text.len() {
         output[at + i] = text[i];
@@ -91,10 +97,9 @@ pub fn put(output: &mut [u8], at: usize, text: &[u8]) -> usize
     at + i
 }
 
-// Writes a number at a place.
+// Writes a number at a place, if it fits there.
 pub fn put_number(output: &mut [u8], at: usize, n: u64) -> usize
-    requires { ⌜ at + 20 ≤ length (now output) ⌝ }
-    ensures { λ r. ⌜ Written (now (output .entry)) at (decimal n) (now (output .exit)) r ⌝ }
+    ensures { λ r. ⌜ (now (output .exit), r) ≡ putAt (now (output .entry)) at (decimal n) ⌝ }
 {
     let mut digits = [0u8; MAX_DIGITS];
     let len = io::decimal(n, &mut digits);

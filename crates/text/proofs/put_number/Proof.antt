@@ -1,8 +1,8 @@
 -- `put_number` meets its contract: the digits that `io::decimal` makes are those of the definition. Assumes nothing.
-use Rattle.text.proofs.Numbers.{few-digits, decimal-is}
-use mathlib.Core.Path.{_∙_}
+use mathlib.Core.Path.{_∙_, ap}
 use native.Mathlib.Omega.{arith}
-use Rattle.text.proofs.Writing.{written-as}
+use Rattle.text.specs.Text.{putAt}
+use Rattle.text.proofs.Numbers.{decimal-is}
 use borrow.Author.Needs.{needs}
 use Rattle.text.proofs.put_number.Statement.{statement}
 use Rattle.text.proofs.put_number.Tie as tie
@@ -17,14 +17,16 @@ slice-aggregate-put : tie.Need-slice-aggregate-put
 slice-aggregate-put c = search needs
 
 put-requires : tie.Need-put-requires
-put-requires c κs = let few = few-digits (c .before .before .decimal .result) (c .before .before .before .before .before .args .n) (omega arith) (c .before .before .decimal .ensures .1 .0) in
-    omega (arith, c .before .before .decimal .ensures .0 .1)
+put-requires c κs = search needs
 
 same-length : tie.Need-same-length
 same-length c = search needs
 
 returns : tie.Need-returns
-returns c = written-as (c .before .before .before .before .before .decimal .ensures .1 .1 ∙ decimal-is (c .before .before .before .before .before .decimal .result) (c .before .before .before .before .before .before .before .before .args .n) (omega arith) (c .before .before .before .before .before .decimal .ensures .1 .0)) (c .before .before .put .ensures)
+returns c = let d = c .before .before .before .before .before .decimal in
+    let a = c .before .before .before .before .before .before .before .before .args in
+    let same = d .ensures .1 .1 ∙ decimal-is (d .result) (a .n) (omega arith) (d .ensures .1 .0) in
+    c .before .before .put .ensures ∙ ap (putAt (a .output .now) (a .at)) same
 
 pub put-number-spec : {M : Type 1} → statement M
 put-number-spec =

@@ -18,12 +18,17 @@ returns-2 c = simp (le-leb 48 (c .before .before .args .digit) (c .before .if1 .
 cast-units : tie.Need-cast-units
 cast-units c = search needs
 
-sub-if3 : tie.Need-sub-if3
-sub-if3 c = search needs
-
 returns-3 : tie.Need-returns-3
 unfolding longer
-returns-3 c = simp (le-leb 48 (c .before .before .before .args .digit) (c .before .before .if1 .left), le-leb (c .before .before .before .args .digit) 57 (c .before .if2 .left), lt-leb (10 * c .before .before .before .args .value + (c .before .before .before .args .digit - 48)) (c .before .before .before .args .most) (omega arith))
+returns-3 c = let a = c .before .before .before .args in
+    let number = 10 * a .value + (a .digit - 48) in
+    simp (le-leb 48 (a .digit) (c .before .before .if1 .left), le-leb (a .digit) 57 (c .before .if2 .left), lt-leb number (a .most) (omega arith))
+
+returns-4 : tie.Need-returns-4
+unfolding longer
+returns-4 c = let a = c .before .before .before .before .args in
+    let number = 10 * a .value + (a .digit - 48) in
+    simp (le-leb 48 (a .digit) (c .before .before .before .if1 .left), le-leb (a .digit) 57 (c .before .before .if2 .left), lt-leb number (a .most) (omega arith))
 
 mul-t7 : tie.Need-mul-t7
 mul-t7 c = search needs
@@ -31,10 +36,12 @@ mul-t7 c = search needs
 add-t8 : tie.Need-add-t8
 add-t8 c = search needs
 
-returns-4 : tie.Need-returns-4
+returns-5 : tie.Need-returns-5
 unfolding longer
-returns-4 c = simp (le-leb 48 (c .before .before .before .args .digit) (c .before .before .if1 .left), le-leb (c .before .before .before .args .digit) 57 (c .before .if2 .left), le-leb (10 * c .before .before .before .args .value + (c .before .before .before .args .digit - 48)) (c .before .before .before .args .most) (omega arith))
+returns-5 c = let a = c .before .before .before .before .args in
+    let number = 10 * a .value + (a .digit - 48) in
+    simp (le-leb 48 (a .digit) (c .before .before .before .if1 .left), le-leb (a .digit) 57 (c .before .before .if2 .left), le-leb number (a .most) (omega arith))
 
 pub with-digit-spec : {M : Type 1} → statement M
 with-digit-spec =
-    tie.close (tie.spec returns returns-2 cast-units sub-if3 returns-3 mul-t7 add-t8 returns-4)
+    tie.close (tie.spec returns returns-2 cast-units returns-3 returns-4 mul-t7 add-t8 returns-5)
