@@ -1,11 +1,14 @@
 -- The laws of what is printed: how lines are put together, and how long they are. Assumes nothing.
 use mathlib.Core.Path.{_≡_, refl, ap, sym, _∙_}
+use mathlib.Core.Bool.{Bool, true, false}
 use mathlib.Core.List.{List, [], _∷_, _++_, append-assoc, append-nil}
-use Prim.Native.Nat.{ℕ, _+_, _*_, _≤_, _<_}
+use Prim.Native.Nat.{ℕ, _+_, _*_, _≤_, _<_, min}
 use native.Mathlib.Omega.{arith}
 use native.Mathlib.Numerals.{add-one}
-use lib.ListN.{length, drop, getD, length-append, drop-of-length-le}
-use lib.Seq.{drop-cons}
+use lib.Dec.{leb}
+use lib.ListN.{length, take, drop, getD, length-append, drop-of-length-le}
+use lib.Seq.{drop-cons, take-all}
+use borrow.Author.Tests.{leb-true, leb-false}
 use Rattle.zuniq.specs.Codec.{decode}
 use Rattle.zuniq.specs.declared.Decoded.{Decoded}
 use Rattle.text.specs.Text.{lf, comma, decimal, Written}
@@ -35,7 +38,22 @@ pub length-zuniq : (x : Decoded) (n : ℕ) → length (zuniqText x n) ≤ 63
 length-zuniq (Decoded.Cell c) n = length-entry (c .depth) (c .hash) n
 length-zuniq Decoded.Nothing n = omega arith
 
+pub length-entries : (zs ns : List ℕ) → length (entriesText zs ns) ≤ 63 * length zs
+unfolding entriesText
+length-entries [] ns = omega arith
+length-entries (z ∷ zs) [] = omega arith
+length-entries (z ∷ zs) (n ∷ ns) =
+    omega (arith, length-append (zuniqText (decode 29 z) n) (entriesText zs ns), length-zuniq (decode 29 z) n, length-entries zs ns)
+
 -- ---- the entries of a map, one after the other
+-- More entries than there are places are those of all places.
+pub take-least : (l : List ℕ) (n : ℕ) {k : ℕ} → k ≡ min n (length l) → take k l ≡ take n l
+take-least l n {k} e = by (leb n (length l)) refl
+  where
+    by : (t : Bool) → leb n (length l) ≡ t → take k l ≡ take n l
+    by true p = let few = leb-true n (length l) p in let same : k ≡ n = omega arith in rw same refl
+    by false p = let many = leb-false n (length l) p in take-all k l (omega arith) ∙ sym (take-all n l (omega arith))
+
 pub entries-next : (zs ns : List ℕ) (i : ℕ) → i < length zs → i < length ns
     → entriesText (drop i zs) (drop i ns) ≡ zuniqText (decode 29 (getD zs i 0)) (getD ns i 0) ++ entriesText (drop (i + 1) zs) (drop (i + 1) ns)
 unfolding entriesText

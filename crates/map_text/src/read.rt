@@ -1,6 +1,5 @@
 // Reading the text: a line `D,M,T`, then lines `hash,count`.
 ghost use mathlib.Core.Path.{_≡_};
-ghost use Prim.Native.Nat.{_+_};
 ghost use lib.ListN.{length};
 ghost use Rattle.text.specs.Text.{position};
 ghost use Rattle.map_text.specs.Lines.{settingsLine, cellLine, firstCell, cells};
@@ -100,7 +99,17 @@ fn read_first_cell(text: &[u8], end: usize) -> CellLine
 }
 
 // Reads the lines behind the first into two buffers.
-pub fn read_cells(text: &[u8], hashes: &mut [u64], counts: &mut [u32]) -> CellLines
+pub fn read_cells(
+    text: &[u8],
+    hashes: &mut [u64; MAX_CELLS],
+    counts: &mut [u32; MAX_CELLS],
+) -> CellLines
+    ensures { λ r. ⌜ CellsAre (cells 2048 2 (now (text .entry))) r (now (hashes .entry)) (now (counts .entry)) (now (hashes .exit)) (now (counts .exit)) ⌝ }
+{
+    read_cell_lines(text, hashes, counts)
+}
+
+fn read_cell_lines(text: &[u8], hashes: &mut [u64], counts: &mut [u32]) -> CellLines
     requires { ⌜ (length (now hashes) ≡ 2048) × (length (now counts) ≡ 2048) ⌝ }
     ensures { λ r. ⌜ CellsAre (cells 2048 2 (now (text .entry))) r (now (hashes .entry)) (now (counts .entry)) (now (hashes .exit)) (now (counts .exit)) ⌝ }
 {

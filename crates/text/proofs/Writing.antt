@@ -30,8 +30,8 @@ pasted d at t e i p q r =
     rw (whole, q) (put-fits d at t (omega arith))
 
 -- What fits is written.
-pub put-written : {d e t : List ℕ} {at m : ℕ} → at + length t ≤ length d → (e, m) ≡ putAt d at t → Written d at t e m
-put-written {d} {e} {t} {at} {m} p q = record {
+pub put-written : {d e t : List ℕ} {at m : ℕ} → (e, m) ≡ putAt d at t → at + length t ≤ length d → Written d at t e m
+put-written {d} {e} {t} {at} {m} q p = record {
   same-length = ap length whole ∙ length-paste d at t (length t) p (omega arith);
   end-is = end;
   front = rw end (ap (take (at + length t)) whole ∙ take-paste d at t (length t) (omega arith) (omega arith) ∙ rw (take-length t) refl);

@@ -1,4 +1,4 @@
--- `read::read_cells` meets its contract. The loop's invariant is `Passing`. Assumes nothing.
+-- `read::read_cell_lines` meets its contract. The loop's invariant is `Passing`. Assumes nothing.
 use mathlib.Core.Path.{sym, _∙_, ap}
 use Prim.Native.Nat.{_-_, _≤_}
 use native.Mathlib.Omega.{arith}
@@ -8,8 +8,8 @@ use Rattle.text.specs.Text.{lf, position}
 use Rattle.map_text.specs.Lines.{cells, firstCell}
 use Rattle.text.proofs.Parts.{rest-whole}
 use Rattle.map_text.proofs.Passing.{Passing, passing-start, passing-end, passing-full, passing-stop, passing-next, cell-ended}
-use Rattle.map_text.proofs.read.read_cells.Statement.{statement}
-use Rattle.map_text.proofs.read.read_cells.Tie as tie
+use Rattle.map_text.proofs.read.read_cell_lines.Statement.{statement}
+use Rattle.map_text.proofs.read.read_cell_lines.Tie as tie
 
 abbrev Inv-loop : tie.InvT-loop
 Inv-loop text hashes₀ counts₀ n₀ at₀ hashes counts n at = (n ≤ 2048) × (at ≤ length text) × Passing (cells 2048 2 text) text hashes₀ counts₀ hashes counts n at
@@ -123,8 +123,8 @@ same-length-6 c = c .before .loop .inv .2 .ns-length
 returns-3 : tie.Need-returns-3 Inv-loop μ-loop
 returns-3 c = passing-end (c .before .loop .inv .2) (omega arith)
 
-pub read-cells-spec : {M : Type 1} → statement M
-read-cells-spec =
+pub read-cell-lines-spec : {M : Type 1} → statement M
+read-cell-lines-spec =
     tie.close
     (tie.spec
     Inv-loop
