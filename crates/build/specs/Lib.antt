@@ -7,3 +7,4 @@ pub mod Standing
 pub mod Add
 pub mod Counts
 pub mod Densities
+pub mod Told

@@ -1,2 +1,3 @@
 pub mod Cases
 pub mod Demand3
+pub mod Answers

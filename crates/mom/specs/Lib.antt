@@ -2,3 +2,4 @@ pub mod Map
 pub mod Range
 pub mod Lookup
 pub mod Search
+pub mod Told

@@ -1,25 +1,32 @@
 -- The answer words of the C functions, and what a call leaves behind its `&mut` numbers: "extern "C" entry points for the
--- Rust ingest process and the differential runs". A refusal, or that there is nothing, leaves them as they were.
-use mathlib.Core.Bool.{true, false}
+-- Rust ingest process and the differential runs". A refusal, or that there is nothing, leaves them as they were. Each is read off what
+-- the answer tells in the scope's terms.
+use mathlib.Core.Bool.{Bool, true, false}
+use mathlib.Core.Option.{Option, none, some}
 use Prim.Native.Nat.{ℕ, _+_, _*_, _%_, _^_}
 use lib.Ieee.{Float}
 use Rattle.refusal.specs.Refusals.{numberOf, placeOf}
+use Rattle.refusal.specs.Told.{Told}
 use Rattle.refusal.specs.declared.Refusal.{Refusal}
+use Rattle.zuniq.specs.Told.{toldCells, toldZuniq, toldCell, toldOverlap}
 use Rattle.zuniq.specs.declared.CellNumber.{CellNumber}
 use Rattle.zuniq.specs.declared.Encoded.{Encoded}
 use Rattle.zuniq.specs.declared.Decoded.{Decoded}
 use Rattle.zuniq.specs.declared.Overlap.{Overlap}
-use Rattle.merger.specs.declared.CountMerge.{CountMerge}
+use Rattle.merger.specs.Told.{Four, toldCountMerger, toldDensityMerger}
 use Rattle.merger.specs.declared.CountMerger.{CountMerger}
-use Rattle.merger.specs.declared.DensityMerge.{DensityMerge}
 use Rattle.merger.specs.declared.DensityMerger.{DensityMerger}
+use Rattle.mom.specs.Told.{faultNumber, toldCheck, toldContaining, toldRun}
 use Rattle.mom.specs.declared.Fault.{Fault}
 use Rattle.mom.specs.declared.MapCheck.{MapCheck}
 use Rattle.mom.specs.declared.lookup.Containing.{Containing}
 use Rattle.mom.specs.declared.lookup.Run.{Run}
+use Rattle.build.specs.Told.{toldCounts, toldDensities}
 use Rattle.build.specs.declared.counts.CountsAdded.{CountsAdded}
 use Rattle.build.specs.declared.densities.DensitiesAdded.{DensitiesAdded}
+use Rattle.rows.specs.Told.{toldRows}
 use Rattle.rows.specs.declared.Rows.{Rows}
+use Rattle.density.specs.Told.{toldCountDensity, toldDensity, toldPattern}
 use Rattle.density.specs.declared.CountDensity.{CountDensity}
 use Rattle.density.specs.declared.PatternDensity.{PatternDensity}
 use Rattle.density.specs.declared.DensityPattern.{DensityPattern}
@@ -42,76 +49,110 @@ kept = 66
 abbrev pub refusalWord : Refusal → ℕ
 refusalWord r = wordOf (numberOf r) (placeOf r)
 
+-- ---- the forms of a word
+-- the answer is in the word
+abbrev pub inWord : Told ℕ → ℕ
+inWord (Told.refused number place) = wordOf number place
+inWord (Told.answer n) = wordOf accepted n
+
+-- the answer goes through a `&mut` number, which held `old`
+abbrev pub besideWord : {X : Type 0} → Told X → X → ℕ × X
+besideWord (Told.refused number place) old = (wordOf number place, old)
+besideWord (Told.answer x) old = (wordOf accepted 0, x)
+
+-- the first number is in the word, the second beside it
+abbrev pub bothWord : Told (ℕ × ℕ) → ℕ → ℕ × ℕ
+bothWord (Told.refused number place) old = (wordOf number place, old)
+bothWord (Told.answer t) old = (wordOf accepted (t .0), t .1)
+
+-- the answer goes beside the word, or there is none
+abbrev pub besideIfAny : {X : Type 0} → Option X → X → ℕ × X
+besideIfAny none old = (wordOf nothing 0, old)
+besideIfAny (some x) old = (wordOf accepted 0, x)
+
+-- ---- the words
 unfoldable pub cellNumberWord : CellNumber → ℕ → ℕ × ℕ
-cellNumberWord (CellNumber.Cells n) old = (wordOf accepted 0, n)
-cellNumberWord (CellNumber.Refused r) old = (refusalWord r, old)
+cellNumberWord a old = besideWord (toldCells a) old
 
 unfoldable pub encodedWord : Encoded → ℕ → ℕ × ℕ
-encodedWord (Encoded.Zuniq z) old = (wordOf accepted 0, z)
-encodedWord (Encoded.Refused r) old = (refusalWord r, old)
+encodedWord a old = besideWord (toldZuniq a) old
+
+-- the cell goes through two numbers
+abbrev pub cellWord : Option (ℕ × ℕ) → ℕ → ℕ → ℕ × ℕ × ℕ
+cellWord none depth hash = (wordOf nothing 0, depth, hash)
+cellWord (some c) depth hash = (wordOf accepted 0, c .0, c .1)
 
 unfoldable pub decodedWord : Decoded → ℕ → ℕ → ℕ × ℕ × ℕ
-decodedWord (Decoded.Cell c) depth hash = (wordOf accepted 0, c .depth, c .hash)
-decodedWord Decoded.Nothing depth hash = (wordOf nothing 0, depth, hash)
+decodedWord a depth hash = cellWord (toldCell a) depth hash
+
+-- 1 or 0
+abbrev pub yesWord : Told Bool → ℕ
+yesWord (Told.refused number place) = wordOf number place
+yesWord (Told.answer true) = wordOf accepted 1
+yesWord (Told.answer false) = wordOf accepted 0
 
 unfoldable pub overlapWord : Overlap → ℕ
-overlapWord (Overlap.Answer true) = wordOf accepted 1
-overlapWord (Overlap.Answer false) = wordOf accepted 0
-overlapWord (Overlap.Refused r) = refusalWord r
+overlapWord a = yesWord (toldOverlap a)
+
+-- the merged count is in the word, chi beside it
+abbrev pub countFourWord : Told (Four ℕ) → Float → ℕ × Float
+countFourWord (Told.refused number place) old = (wordOf number place, old)
+countFourWord (Told.answer (Four.merged n)) old = (wordOf accepted n, old)
+countFourWord (Told.answer (Four.kept chi)) old = (wordOf kept 0, chi)
 
 unfoldable pub countMergerWord : CountMerger → Float → ℕ × Float
-countMergerWord (CountMerger.Answer (CountMerge.Merged n)) old = (wordOf accepted n, old)
-countMergerWord (CountMerger.Answer (CountMerge.Kept chi)) old = (wordOf kept 0, chi)
-countMergerWord (CountMerger.Refused r) old = (refusalWord r, old)
+countMergerWord a old = countFourWord (toldCountMerger a) old
+
+-- the merged density and chi are both beside it
+abbrev pub densityFourWord : Told (Four Float) → Float → ℕ × Float
+densityFourWord (Told.refused number place) old = (wordOf number place, old)
+densityFourWord (Told.answer (Four.merged m)) old = (wordOf accepted 0, m)
+densityFourWord (Told.answer (Four.kept chi)) old = (wordOf kept 0, chi)
 
 unfoldable pub densityMergerWord : DensityMerger → Float → ℕ × Float
-densityMergerWord (DensityMerger.Answer (DensityMerge.Merged m)) old = (wordOf accepted 0, m)
-densityMergerWord (DensityMerger.Answer (DensityMerge.Kept chi)) old = (wordOf kept 0, chi)
-densityMergerWord (DensityMerger.Refused r) old = (refusalWord r, old)
+densityMergerWord a old = densityFourWord (toldDensityMerger a) old
 
--- a fault has a kind of its own, and the word holds its place
+-- a fault has a kind of its own, 67 to 70
 abbrev pub faultKind : Fault → ℕ
-faultKind Fault.NotZuniq = 67
-faultKind Fault.TooDeep = 68
-faultKind Fault.NotAbove = 69
-faultKind Fault.Overlapping = 70
+faultKind fault = 66 + faultNumber fault
+
+-- and the word holds its place
+abbrev pub faultWord : Told (Option (ℕ × ℕ)) → ℕ
+faultWord (Told.refused number place) = wordOf number place
+faultWord (Told.answer none) = wordOf accepted 0
+faultWord (Told.answer (some t)) = wordOf (66 + t .1) (t .0)
 
 unfoldable pub mapCheckWord : MapCheck → ℕ
-mapCheckWord MapCheck.Valid = wordOf accepted 0
-mapCheckWord (MapCheck.Faulty place fault) = wordOf (faultKind fault) place
-mapCheckWord (MapCheck.Refused r) = refusalWord r
+mapCheckWord a = faultWord (toldCheck a)
+
+-- the place, or that there is none
+abbrev pub placeWord : Told (Option ℕ) → ℕ
+placeWord (Told.refused number place) = wordOf number place
+placeWord (Told.answer none) = wordOf nothing 0
+placeWord (Told.answer (some place)) = wordOf accepted place
 
 unfoldable pub containingWord : Containing → ℕ
-containingWord (Containing.At place) = wordOf accepted place
-containingWord Containing.Nothing = wordOf nothing 0
-containingWord (Containing.Refused r) = refusalWord r
+containingWord a = placeWord (toldContaining a)
 
 unfoldable pub runWord : Run → ℕ → ℕ × ℕ
-runWord (Run.Entries first len) old = (wordOf accepted first, len)
-runWord (Run.Refused r) old = (refusalWord r, old)
+runWord a old = bothWord (toldRun a) old
 
 -- the number of entries, and for counts their total
 unfoldable pub countsWord : CountsAdded → ℕ → ℕ × ℕ
-countsWord (CountsAdded.Added entries sum) old = (wordOf accepted entries, sum)
-countsWord (CountsAdded.Refused r) old = (refusalWord r, old)
+countsWord a old = bothWord (toldCounts a) old
 
 unfoldable pub densitiesWord : DensitiesAdded → ℕ
-densitiesWord (DensitiesAdded.Added entries) = wordOf accepted entries
-densitiesWord (DensitiesAdded.Refused r) = refusalWord r
+densitiesWord a = inWord (toldDensities a)
 
 -- "Both row calls answer the number of rows"
 unfoldable pub rowsWord : Rows → ℕ
-rowsWord (Rows.Rows n) = wordOf accepted n
-rowsWord (Rows.Refused r) = refusalWord r
+rowsWord a = inWord (toldRows a)
 
 unfoldable pub countDensityWord : CountDensity → Float → ℕ × Float
-countDensityWord (CountDensity.Density x) old = (wordOf accepted 0, x)
-countDensityWord (CountDensity.Refused r) old = (refusalWord r, old)
+countDensityWord a old = besideWord (toldCountDensity a) old
 
 unfoldable pub patternDensityWord : PatternDensity → Float → ℕ × Float
-patternDensityWord (PatternDensity.Density x) old = (wordOf accepted 0, x)
-patternDensityWord PatternDensity.Nothing old = (wordOf nothing 0, old)
+patternDensityWord a old = besideIfAny (toldDensity a) old
 
 unfoldable pub densityPatternWord : DensityPattern → ℕ → ℕ × ℕ
-densityPatternWord (DensityPattern.Pattern p) old = (wordOf accepted 0, p)
-densityPatternWord DensityPattern.Nothing old = (wordOf nothing 0, old)
+densityPatternWord a old = besideIfAny (toldPattern a) old

@@ -1,0 +1,364 @@
+-- What every call answers, in the scope's numbers, places and values: the rows of the table of refusals in their order, and then the
+-- answer. Each law is about the definition that the call's contract cites. Assumes nothing.
+use mathlib.Core.Path.{_≡_, refl, ap, sym, _∙_}
+use mathlib.Core.Bool.{Bool, true, false, _||_, not, cond}
+use mathlib.Core.List.{List, [], _∷_, reverse}
+use mathlib.Core.Option.{Option, none, some}
+use Prim.Native.Nat.{ℕ, _+_, _*_, _/_, _%_}
+use lib.Dec.{eqb, leb, ltb}
+use lib.Ieee.{Float, isNan}
+use lib.ListN.{length, take}
+use Rattle.refusal.specs.Told.{Told, refusedBy}
+use Rattle.refusal.specs.declared.Refusal.{Refusal}
+use Rattle.zuniq.specs.Cells.{nHash, overlap}
+use Rattle.zuniq.specs.Codec.{zuniq, cellNumber, encode, decode, overlapOf, overlapTest}
+use Rattle.zuniq.specs.Told.{toldCells, toldZuniq, toldCell, toldOverlap}
+use Rattle.zuniq.specs.declared.Decoded.{Decoded}
+use Rattle.merger.specs.Floats.{invalidDensity}
+use Rattle.merger.specs.Merge.{acceptCounts, acceptDensities, mergeCounts, countMerger, mergeDensities, firstInvalid, densityMerger}
+use Rattle.merger.specs.Told.{toldCountMerge, toldDensityMerge, toldCountMerger, toldDensityMerger}
+use Rattle.mom.specs.Map.{firstFault, validOr, mapCheck}
+use Rattle.mom.specs.Lookup.{placeFrom, queryAt, containing, firstFrom, overlapped, runOr, overlapping}
+use Rattle.mom.specs.Told.{toldCheck, toldContaining, toldRun}
+use Rattle.mom.specs.declared.FirstFault.{FirstFault}
+use Rattle.mom.specs.declared.lookup.Containing.{Containing}
+use Rattle.mom.specs.declared.lookup.Run.{Run}
+use Rattle.build.specs.Map.{Entry, orElse}
+use Rattle.build.specs.Stack.{run}
+use Rattle.build.specs.Buffers.{batch, held}
+use Rattle.build.specs.Calls.{Buffers, Batch, Answer, Calls, answered, addCall}
+use Rattle.build.specs.Add.{refusedIf, settingsRefusal, lengthsRefusal, mapRefusal, mapEnd, cellsRefusal, sumOf, totalRefusal, spaceRefusal}
+use Rattle.build.specs.Counts.{totalOf, never, countsRefusal, Report, countCalls, countsAdded, addCounts}
+use Rattle.build.specs.Densities.{densityRefusal, densitiesRefusal, densityCalls, densitiesAdded, addDensities}
+use Rattle.build.specs.Told.{toldCounts, toldDensities}
+use Rattle.combine.specs.Rules.{definedPool, definedProduct}
+use Rattle.combine.specs.Densities.{someNotFinite}
+use Rattle.combine.specs.Pool as Combining
+use Rattle.combine.specs.Pool.{Given, entries, resultDepth, poolKept, productKept, poolCounts, productDensities}
+use Rattle.rows.specs.Rows.{Column, rowSize, lengths, differ, places, rowsToRead, rowsToWrite}
+use Rattle.rows.specs.Told.{toldRows}
+use Rattle.density.specs.Densities.{densityAt, densityOfCount}
+use Rattle.density.specs.Told.{toldCountDensity}
+use Rattle.claims.specs.Answers.{row, rowAt, rowsOf, faultyEntry, faultTold}
+
+-- ---- rows in order
+-- What is told of a choice is the choice of what is told.
+of-choice : {A B : Type 0} (f : A → B) (b : Bool) (x y : A) → f (cond b x y) ≡ cond b (f x) (f y)
+of-choice f true x y = refl
+of-choice f false x y = refl
+
+module _ {X : Type 0} where
+  in-order : (a b : Option Refusal) (next : Told X) → rowsOf (orElse a b) next ≡ rowsOf a (rowsOf b next)
+  in-order none b next = refl
+  in-order (some r) b next = refl
+
+  one-row : (test : Bool) (r : Refusal) (next : Told X) → rowsOf (refusedIf test r) next ≡ cond test (refusedBy r) next
+  one-row true r next = refl
+  one-row false r next = refl
+
+  map-row : (f : FirstFault) (next : Told X) → rowsOf (mapRefusal f) next ≡ rowAt 5 (faultyEntry f) next
+  unfolding mapRefusal
+  map-row FirstFault.Nothing next = refl
+  map-row (FirstFault.At place fault) next = refl
+
+-- ---- section 1
+-- N(d): 1.
+pub n-hash-tells : (d : ℕ) → toldCells (cellNumber 29 d) ≡ row 1 (ltb 29 d) (Told.answer (nHash d))
+unfolding cellNumber
+n-hash-tells d = of-choice toldCells (ltb 29 d) _ _
+
+-- Encoding: 1, 7.
+pub to-zuniq-tells : (d h : ℕ) → toldZuniq (encode 29 d h) ≡ row 1 (ltb 29 d) (row 7 (leb (nHash d) h) (Told.answer (zuniq 29 d h)))
+unfolding encode
+to-zuniq-tells d h = of-choice toldZuniq (ltb 29 d) _ _ ∙ ap (row 1 (ltb 29 d)) (of-choice toldZuniq (leb (nHash d) h) _ _)
+
+-- The overlap test: 12, place 0 or 1.
+abbrev pub overlapTold : Option (ℕ × ℕ) → Option (ℕ × ℕ) → Told Bool
+overlapTold none r = Told.refused 12 0
+overlapTold (some l) none = Told.refused 12 1
+overlapTold (some l) (some r) = Told.answer (overlap (l .0) (l .1) (r .0) (r .1))
+
+pub are-overlapping-tells : (l r : ℕ) → toldOverlap (overlapTest 29 l r) ≡ overlapTold (toldCell (decode 29 l)) (toldCell (decode 29 r))
+unfolding overlapTest overlapOf
+are-overlapping-tells l r = go (decode 29 l) (decode 29 r)
+  where
+    go : (a b : Decoded) → toldOverlap (overlapOf a b) ≡ overlapTold (toldCell a) (toldCell b)
+    go Decoded.Nothing b = refl
+    go (Decoded.Cell c) Decoded.Nothing = refl
+    go (Decoded.Cell c) (Decoded.Cell e) = refl
+
+-- ---- section 2
+-- The count merger: 1, 2, 3, 10.
+pub count-merger-tells : (M : ℕ) (T : Float) (p n0 n1 n2 n3 : ℕ) → toldCountMerger (countMerger M T p n0 n1 n2 n3)
+    ≡ row 1 (ltb 28 p) (row 2 (ltb 29 M) (row 3 (isNan T) (row 10 (ltb 4294967295 (n0 + n1 + n2 + n3)) (Told.answer (toldCountMerge (mergeCounts M T p 0 n0 n1 n2 n3))))))
+unfolding countMerger
+count-merger-tells M T p n0 n1 n2 n3 =
+    of-choice toldCountMerger (ltb 28 p) _ _
+    ∙ ap (row 1 (ltb 28 p)) (of-choice toldCountMerger (ltb 29 M) _ _
+    ∙ ap (row 2 (ltb 29 M)) (of-choice toldCountMerger (isNan T) _ _
+    ∙ ap (row 3 (isNan T)) (of-choice toldCountMerger (ltb 4294967295 (n0 + n1 + n2 + n3)) _ _)))
+
+-- The density merger: 1, 2, 3, 9 with the child's place.
+pub density-merger-tells : (M : ℕ) (T : Float) (p : ℕ) (m0 m1 m2 m3 : Float) → toldDensityMerger (densityMerger M T p m0 m1 m2 m3)
+    ≡ row 1 (ltb 28 p) (row 2 (ltb 29 M) (row 3 (isNan T)
+    (cond (ltb (firstInvalid m0 m1 m2 m3) 4) (Told.refused 9 (firstInvalid m0 m1 m2 m3)) (Told.answer (toldDensityMerge (mergeDensities M T p 0 m0 m1 m2 m3))))))
+unfolding densityMerger
+density-merger-tells M T p m0 m1 m2 m3 =
+    of-choice toldDensityMerger (ltb 28 p) _ _
+    ∙ ap (row 1 (ltb 28 p)) (of-choice toldDensityMerger (ltb 29 M) _ _
+    ∙ ap (row 2 (ltb 29 M)) (of-choice toldDensityMerger (isNan T) _ _
+    ∙ ap (row 3 (isNan T)) (of-choice toldDensityMerger (ltb (firstInvalid m0 m1 m2 m3) 4) _ _)))
+
+-- ---- sections 3 and 6
+-- The map check: 1.
+pub check-tells : (D : ℕ) (zs : List ℕ) → toldCheck (mapCheck 29 D zs) ≡ row 1 (ltb 29 D) (Told.answer (faultTold (firstFault 29 D zs)))
+unfolding mapCheck validOr
+check-tells D zs = of-choice toldCheck (ltb 29 D) _ _ ∙ ap (row 1 (ltb 29 D)) (go (firstFault 29 D zs))
+  where
+    go : (f : FirstFault) → toldCheck (validOr f) ≡ Told.answer (faultTold f)
+    go FirstFault.Nothing = refl
+    go (FirstFault.At place fault) = refl
+
+-- Containing: 1, 12.
+abbrev pub notAt : ℕ → Option (ℕ × ℕ) → Bool
+notAt D none = true
+notAt D (some c) = not (eqb (c .0) D)
+
+pub containing-tells : (D : ℕ) (zs : List ℕ) (q : ℕ) → toldContaining (containing 29 D zs q)
+    ≡ row 1 (ltb 29 D) (row 12 (notAt D (toldCell (decode 29 q))) (toldContaining (placeFrom 29 q 0 zs)))
+unfolding containing queryAt
+containing-tells D zs q = of-choice toldContaining (ltb 29 D) _ _ ∙ ap (row 1 (ltb 29 D)) (go (decode 29 q))
+  where
+    swap : (b : Bool) (x y : Containing) → toldContaining (cond b x y) ≡ cond (not b) (toldContaining y) (toldContaining x)
+    swap true x y = refl
+    swap false x y = refl
+
+    go : (c : Decoded) → toldContaining (queryAt D c (placeFrom 29 q 0 zs)) ≡ row 12 (notAt D (toldCell c)) (toldContaining (placeFrom 29 q 0 zs))
+    go Decoded.Nothing = refl
+    go (Decoded.Cell c) = swap (eqb (c .depth) D) _ _
+
+-- Overlapping: 12.
+abbrev pub isNothing : Option (ℕ × ℕ) → Bool
+isNothing none = true
+isNothing (some c) = false
+
+pub overlapping-tells : (zs : List ℕ) (q : ℕ) → toldRun (overlapping 29 zs q)
+    ≡ row 12 (isNothing (toldCell (decode 29 q))) (Told.answer (firstFrom 29 q 0 zs, length (overlapped 29 zs q)))
+unfolding overlapping runOr
+overlapping-tells zs q = go (decode 29 q)
+  where
+    go : (c : Decoded) → toldRun (runOr c (Run.Entries (firstFrom 29 q 0 zs) (length (overlapped 29 zs q))))
+        ≡ row 12 (isNothing (toldCell c)) (Told.answer (firstFrom 29 q 0 zs, length (overlapped 29 zs q)))
+    go Decoded.Nothing = refl
+    go (Decoded.Cell c) = refl
+
+-- ---- section 4
+-- What an add call tells is its refusal, or the number of entries and their total.
+counts-told : (g : Calls ℕ Refusal Report) (o : Option Refusal) (b : Buffers ℕ) (s : List (Entry ℕ))
+    → toldCounts (countsAdded (answered g o b s .1)) ≡ rowsOf o (Told.answer (g .report s .entries, g .report s .sum))
+counts-told g none b s = refl
+counts-told g (some r) b s = refl
+
+densities-told : (g : Calls Float Refusal ℕ) (o : Option Refusal) (b : Buffers Float) (s : List (Entry Float))
+    → toldDensities (densitiesAdded (answered g o b s .1)) ≡ rowsOf o (Told.answer (g .report s))
+densities-told g none b s = refl
+densities-told g (some r) b s = refl
+
+-- rows 1 to 3 of an add call
+module _ {X : Type 0} (D M : ℕ) (T : Float) (next : Told X) where
+  settings-rows : rowsOf (settingsRefusal D M T) next ≡ row 1 (eqb D 0 || ltb 29 D) (row 2 (ltb 29 M) (row 3 (isNan T) next))
+  unfolding settingsRefusal
+  settings-rows =
+      in-order (refusedIf (eqb D 0 || ltb 29 D) Refusal.DepthOutOfRange) _ next
+      ∙ one-row (eqb D 0 || ltb 29 D) _ _
+      ∙ ap (row 1 (eqb D 0 || ltb 29 D)) (in-order (refusedIf (ltb 29 M) Refusal.DepthThresholdOutOfRange) _ next
+      ∙ one-row (ltb 29 M) _ _
+      ∙ ap (row 2 (ltb 29 M)) (one-row (isNan T) _ next))
+
+-- Adding counts: 1 to 5, 7 and 8 cell by cell, 10, 11.
+module _ (D M : ℕ) (T : Float) (m : ℕ) (zs vs hs ns : List ℕ) where
+  abbrev pub countsMade : List (Entry ℕ)
+  countsMade = run (acceptCounts M T) (held 29 m zs vs) (batch D hs ns)
+
+  pub add-counts-tells : toldCounts (addCounts D M T m zs vs hs ns .0)
+      ≡ row 1 (eqb D 0 || ltb 29 D)
+      (row 2 (ltb 29 M)
+      (row 3 (isNan T)
+      (row 4 (not (eqb (length zs) (length vs)) || (ltb (length zs) m || not (eqb (length hs) (length ns))))
+      (rowAt 5 (faultyEntry (firstFault 29 D (take m zs)))
+      (rowsOf (cellsRefusal never D (mapEnd 29 D (take m zs)) 0 hs ns)
+      (rowsOf (totalRefusal (sumOf (take m vs)) ns)
+      (row 11 (ltb (length zs) (m + length hs))
+      (Told.answer (length countsMade, totalOf countsMade)))))))))
+  unfolding addCounts addCall countsRefusal lengthsRefusal spaceRefusal
+  add-counts-tells =
+      counts-told (countCalls D M T) (countsRefusal D M T m (length zs) (length vs) (take m zs) (take m vs) hs ns) _ countsMade
+      ∙ in-order (settingsRefusal D M T) _ _
+      ∙ settings-rows D M T _
+      ∙ ap (λ x. row 1 (eqb D 0 || ltb 29 D) (row 2 (ltb 29 M) (row 3 (isNan T) x)))
+      (in-order (lengthsRefusal m (length zs) (length vs) (length hs) (length ns)) _ _
+      ∙ one-row (not (eqb (length zs) (length vs)) || (ltb (length zs) m || not (eqb (length hs) (length ns)))) _ _
+      ∙ ap (row 4 (not (eqb (length zs) (length vs)) || (ltb (length zs) m || not (eqb (length hs) (length ns)))))
+      (in-order (mapRefusal (firstFault 29 D (take m zs))) _ _
+      ∙ map-row (firstFault 29 D (take m zs)) _
+      ∙ ap (rowAt 5 (faultyEntry (firstFault 29 D (take m zs))))
+      (in-order (cellsRefusal never D (mapEnd 29 D (take m zs)) 0 hs ns) _ _
+      ∙ ap (rowsOf (cellsRefusal never D (mapEnd 29 D (take m zs)) 0 hs ns))
+      (in-order (totalRefusal (sumOf (take m vs)) ns) _ _
+      ∙ ap (rowsOf (totalRefusal (sumOf (take m vs)) ns)) (one-row (ltb (length zs) (m + length hs)) _ _)))))
+
+-- Adding densities: 1 to 6, 7 to 9 cell by cell, 11.
+module _ (D M : ℕ) (T : Float) (m : ℕ) (zs : List ℕ) (vs : List Float) (hs : List ℕ) (xs : List Float) where
+  abbrev pub densitiesMade : List (Entry Float)
+  densitiesMade = run (acceptDensities M T) (held 29 m zs vs) (batch D hs xs)
+
+  pub add-densities-tells : toldDensities (addDensities D M T m zs vs hs xs .0)
+      ≡ row 1 (eqb D 0 || ltb 29 D)
+      (row 2 (ltb 29 M)
+      (row 3 (isNan T)
+      (row 4 (not (eqb (length zs) (length vs)) || (ltb (length zs) m || not (eqb (length hs) (length xs))))
+      (rowAt 5 (faultyEntry (firstFault 29 D (take m zs)))
+      (rowsOf (densityRefusal 0 (take m vs))
+      (rowsOf (cellsRefusal invalidDensity D (mapEnd 29 D (take m zs)) 0 hs xs)
+      (row 11 (ltb (length zs) (m + length hs))
+      (Told.answer (length densitiesMade)))))))))
+  unfolding addDensities addCall densitiesRefusal lengthsRefusal spaceRefusal
+  add-densities-tells =
+      densities-told (densityCalls D M T) (densitiesRefusal D M T m (length zs) (length vs) (take m zs) (take m vs) hs xs) _ densitiesMade
+      ∙ in-order (settingsRefusal D M T) _ _
+      ∙ settings-rows D M T _
+      ∙ ap (λ x. row 1 (eqb D 0 || ltb 29 D) (row 2 (ltb 29 M) (row 3 (isNan T) x)))
+      (in-order (lengthsRefusal m (length zs) (length vs) (length hs) (length xs)) _ _
+      ∙ one-row (not (eqb (length zs) (length vs)) || (ltb (length zs) m || not (eqb (length hs) (length xs)))) _ _
+      ∙ ap (row 4 (not (eqb (length zs) (length vs)) || (ltb (length zs) m || not (eqb (length hs) (length xs)))))
+      (in-order (mapRefusal (firstFault 29 D (take m zs))) _ _
+      ∙ map-row (firstFault 29 D (take m zs)) _
+      ∙ ap (rowAt 5 (faultyEntry (firstFault 29 D (take m zs))))
+      (in-order (densityRefusal 0 (take m vs)) _ _
+      ∙ ap (rowsOf (densityRefusal 0 (take m vs)))
+      (in-order (cellsRefusal invalidDensity D (mapEnd 29 D (take m zs)) 0 hs xs) _ _
+      ∙ ap (rowsOf (cellsRefusal invalidDensity D (mapEnd 29 D (take m zs)) 0 hs xs)) (one-row (ltb (length zs) (m + length hs)) _ _)))))
+
+-- ---- section 5: "in each row left map before right"
+-- rows 1 to 3 of a pool or a product
+module _ {X : Type 0} (Dl Dr M : ℕ) (T : Float) (next : Told X) where
+  combining-rows : rowsOf (Combining.settingsRefusal Dl Dr M T) next ≡ row 1 (ltb 29 Dl || ltb 29 Dr) (row 2 (ltb 29 M) (row 3 (isNan T) next))
+  unfolding Combining.settingsRefusal
+  combining-rows =
+      in-order (refusedIf (ltb 29 Dl || ltb 29 Dr) Refusal.DepthOutOfRange) _ next
+      ∙ one-row (ltb 29 Dl || ltb 29 Dr) _ _
+      ∙ ap (row 1 (ltb 29 Dl || ltb 29 Dr)) (in-order (refusedIf (ltb 29 M) Refusal.DepthThresholdOutOfRange) _ next
+      ∙ one-row (ltb 29 M) _ _
+      ∙ ap (row 2 (ltb 29 M)) (one-row (isNan T) _ next))
+
+-- row 5 of both maps
+maps-rows : {X A : Type 0} (l r : Given A) (next : Told X)
+    → rowsOf (Combining.mapsRefusal l r) next ≡ rowAt 5 (faultyEntry (firstFault 29 (l .depth) (l .zuniqs))) (rowAt 5 (faultyEntry (firstFault 29 (r .depth) (r .zuniqs))) next)
+unfolding Combining.mapsRefusal
+maps-rows l r next =
+    in-order (mapRefusal (firstFault 29 (l .depth) (l .zuniqs))) _ next
+    ∙ map-row (firstFault 29 (l .depth) (l .zuniqs)) _
+    ∙ ap (rowAt 5 (faultyEntry (firstFault 29 (l .depth) (l .zuniqs)))) (map-row (firstFault 29 (r .depth) (r .zuniqs)) next)
+
+-- "4. Paired buffers differ in length": of the maps, and of the output
+abbrev pub unpaired : {A : Type 0} → Given A → Given A → ℕ → ℕ → Bool
+unpaired l r zs vs = not (eqb (length (l .zuniqs)) (length (l .values))) || (not (eqb (length (r .zuniqs)) (length (r .values))) || not (eqb zs vs))
+
+-- Pool: 1 to 5, 10, 11.
+module _ (l r : Given ℕ) (M : ℕ) (T : Float) (zs vs : List ℕ) where
+  abbrev pub pooledMap : List (Entry ℕ)
+  pooledMap = reverse (definedPool (acceptCounts M T) (resultDepth l r) (entries l) (entries r))
+
+  pub pool-tells : toldCounts (poolCounts l r M T zs vs .0)
+      ≡ row 1 (ltb 29 (l .depth) || ltb 29 (r .depth))
+      (row 2 (ltb 29 M)
+      (row 3 (isNan T)
+      (row 4 (unpaired l r (length zs) (length vs))
+      (rowAt 5 (faultyEntry (firstFault 29 (l .depth) (l .zuniqs)))
+      (rowAt 5 (faultyEntry (firstFault 29 (r .depth) (r .zuniqs)))
+      (row 10 (ltb 4294967295 (sumOf (l .values) + sumOf (r .values)))
+      (row 11 (ltb (length zs) (length (poolKept l r)))
+      (Told.answer (length pooledMap, totalOf pooledMap)))))))))
+  unfolding poolCounts Combining.poolOver Combining.poolRefusal Combining.poolInputRefusal Combining.pairsRefusal Combining.sumsRefusal Combining.placesRefusal
+  pool-tells =
+      let input = Combining.poolInputRefusal l r M T (length zs) (length vs) in
+      let last : Told (ℕ × ℕ) = row 11 (ltb (length zs) (length (poolKept l r))) (Told.answer (length pooledMap, totalOf pooledMap)) in
+      counts-told (countCalls (resultDepth l r) M T) (Combining.poolRefusal l r M T (length zs) (length vs)) _ pooledMap
+      ∙ in-order input _ _
+      ∙ ap (rowsOf input) (one-row (ltb (length zs) (length (poolKept l r))) _ _)
+      ∙ in-order (Combining.settingsRefusal (l .depth) (r .depth) M T) _ last
+      ∙ combining-rows (l .depth) (r .depth) M T _
+      ∙ ap (λ x. row 1 (ltb 29 (l .depth) || ltb 29 (r .depth)) (row 2 (ltb 29 M) (row 3 (isNan T) x)))
+      (in-order (refusedIf (unpaired l r (length zs) (length vs)) Refusal.LengthMismatch) _ last
+      ∙ one-row (unpaired l r (length zs) (length vs)) _ _
+      ∙ ap (row 4 (unpaired l r (length zs) (length vs)))
+      (in-order (Combining.mapsRefusal l r) _ last
+      ∙ maps-rows l r _
+      ∙ ap (λ x. rowAt 5 (faultyEntry (firstFault 29 (l .depth) (l .zuniqs))) (rowAt 5 (faultyEntry (firstFault 29 (r .depth) (r .zuniqs))) x))
+      (one-row (ltb 4294967295 (sumOf (l .values) + sumOf (r .values))) _ last)))
+
+-- Product: 1 to 6, 10, 11.
+module _ (l r : Given Float) (M : ℕ) (T k : Float) (zs : List ℕ) (vs : List Float) where
+  abbrev pub productMap : List (Entry Float)
+  productMap = reverse (definedProduct (acceptDensities M T) k (resultDepth l r) (entries l) (entries r))
+
+  pub product-tells : toldDensities (productDensities l r M T k zs vs .0)
+      ≡ row 1 (ltb 29 (l .depth) || ltb 29 (r .depth))
+      (row 2 (ltb 29 M)
+      (row 3 (isNan T)
+      (row 3 (invalidDensity k)
+      (row 4 (unpaired l r (length zs) (length vs))
+      (rowAt 5 (faultyEntry (firstFault 29 (l .depth) (l .zuniqs)))
+      (rowAt 5 (faultyEntry (firstFault 29 (r .depth) (r .zuniqs)))
+      (rowsOf (densityRefusal 0 (l .values))
+      (rowsOf (densityRefusal 0 (r .values))
+      (row 10 (someNotFinite (productKept k l r))
+      (row 11 (ltb (length zs) (length (productKept k l r)))
+      (Told.answer (length productMap))))))))))))
+  unfolding productDensities Combining.productOver Combining.productRefusal Combining.productInputRefusal Combining.factorRefusal Combining.pairsRefusal Combining.mapDensitiesRefusal Combining.finiteRefusal Combining.placesRefusal
+  product-tells =
+      let input = Combining.productInputRefusal l r M T k (length zs) (length vs) in
+      let space : Told ℕ = row 11 (ltb (length zs) (length (productKept k l r))) (Told.answer (length productMap)) in
+      let last : Told ℕ = row 10 (someNotFinite (productKept k l r)) space in
+      densities-told (densityCalls (resultDepth l r) M T) (Combining.productRefusal l r M T k (length zs) (length vs)) _ productMap
+      ∙ in-order input _ _
+      ∙ ap (rowsOf input)
+      (in-order (refusedIf (someNotFinite (productKept k l r)) Refusal.ProductNotFinite) _ _
+      ∙ one-row (someNotFinite (productKept k l r)) _ _
+      ∙ ap (row 10 (someNotFinite (productKept k l r))) (one-row (ltb (length zs) (length (productKept k l r))) _ _))
+      ∙ in-order (Combining.settingsRefusal (l .depth) (r .depth) M T) _ last
+      ∙ combining-rows (l .depth) (r .depth) M T _
+      ∙ ap (λ x. row 1 (ltb 29 (l .depth) || ltb 29 (r .depth)) (row 2 (ltb 29 M) (row 3 (isNan T) x)))
+      (in-order (refusedIf (invalidDensity k) Refusal.InvalidFactor) _ last
+      ∙ one-row (invalidDensity k) _ _
+      ∙ ap (row 3 (invalidDensity k))
+      (in-order (refusedIf (unpaired l r (length zs) (length vs)) Refusal.LengthMismatch) _ last
+      ∙ one-row (unpaired l r (length zs) (length vs)) _ _
+      ∙ ap (row 4 (unpaired l r (length zs) (length vs)))
+      (in-order (Combining.mapsRefusal l r) _ last
+      ∙ maps-rows l r _
+      ∙ ap (λ x. rowAt 5 (faultyEntry (firstFault 29 (l .depth) (l .zuniqs))) (rowAt 5 (faultyEntry (firstFault 29 (r .depth) (r .zuniqs))) x))
+      (in-order (densityRefusal 0 (l .values)) (densityRefusal 0 (r .values)) last))))
+
+-- ---- section 7
+-- Reading rows: 4, 11.
+pub read-rows-tells : (k bytes : ℕ) (ls : List ℕ) → toldRows (rowsToRead k bytes ls)
+    ≡ row 4 (differ ls) (row 4 (not (eqb (bytes % k) 0)) (row 11 (ltb (places ls) (bytes / k)) (Told.answer (bytes / k))))
+unfolding rowsToRead
+read-rows-tells k bytes ls =
+    of-choice toldRows (differ ls) _ _
+    ∙ ap (row 4 (differ ls)) (of-choice toldRows (not (eqb (bytes % k) 0)) _ _
+    ∙ ap (row 4 (not (eqb (bytes % k) 0))) (of-choice toldRows (ltb (places ls) (bytes / k)) _ _))
+
+-- Writing rows: 4, 11.
+pub write-rows-tells : (k bytes : ℕ) (ls : List ℕ) → toldRows (rowsToWrite k bytes ls)
+    ≡ row 4 (differ ls) (row 11 (ltb bytes (places ls * k)) (Told.answer (places ls)))
+unfolding rowsToWrite
+write-rows-tells k bytes ls =
+    of-choice toldRows (differ ls) _ _
+    ∙ ap (row 4 (differ ls)) (of-choice toldRows (ltb bytes (places ls * k)) _ _)
+
+-- The density of a count: 1.
+pub density-of-count-tells : (n d : ℕ) → toldCountDensity (densityOfCount 29 n d) ≡ row 1 (ltb 29 d) (Told.answer (densityAt n d))
+unfolding densityOfCount
+density-of-count-tells n d = of-choice toldCountDensity (ltb 29 d) _ _
