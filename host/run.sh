@@ -88,7 +88,7 @@ skip() {
     for name; do
         tests=$((tests + $(tests_of_part "$name")))
     done
-    echo "$tests skipped: $what ($why)" >> "$logs/skipped"
+    echo "$tests skipped: $what (${why//$'\n'/ })" >> "$logs/skipped"
 }
 
 # The tests of a part that may be skipped, read off the sources; nothing for another one.
