@@ -27,8 +27,13 @@ if [[ ! $seconds =~ ^[1-9][0-9]*$ ]]; then
     exit 1
 fi
 # Cargo runs a build script in its own directory, so that a relative path would change its meaning.
-[ -z "${ORACLE_DOCS:-}" ] || ORACLE_DOCS=$(realpath -m "$ORACLE_DOCS")
-[ -z "${MOM_LIB_DIR:-}" ] || MOM_LIB_DIR=$(realpath -m "$MOM_LIB_DIR")
+for variable in ORACLE_DOCS MOM_LIB_DIR; do
+    if [ -n "${!variable:-}" ]; then
+        export "$variable=$(realpath -m "${!variable}")"
+    else
+        unset "$variable"
+    fi
+done
 cd "$(dirname "$0")" || exit 1
 passed=0 failed=0
 logs=$(mktemp -d) || exit 1
