@@ -1,4 +1,5 @@
 pub mod Answers
+pub mod BrokenOff
 pub mod Reading
 pub mod Prefix
 pub mod MapText

@@ -188,18 +188,18 @@ cells-of-take (suc left) line n l p =
         ap (withCell (CellLine.Cell h m) line)
         (ap (cells left (line + 1)) (past-of-take n l (omega arith)) ∙ ih (n - (position lf l + 1)) (past lf l) (omega arith))
 
-reading-of-take : (l : List ℕ) → reading (take 86080 l) ≡ reading l
+reading-of-take : (n : ℕ) (l : List ℕ) → 86080 ≤ n → reading (take n l) ≡ reading l
 unfolding reading
-reading-of-take l = rw (settings-of-take 86080 l (omega arith)) (by (firstSettings l) refl)
+reading-of-take n l p = rw (settings-of-take n l (omega arith)) (by (firstSettings l) refl)
   where
-    by : (x : SettingsLine) → firstSettings l ≡ x → readingOf x (cells 2048 2 (past lf (take 86080 l))) ≡ readingOf x (cells 2048 2 (past lf l))
+    by : (x : SettingsLine) → firstSettings l ≡ x → readingOf x (cells 2048 2 (past lf (take n l))) ≡ readingOf x (cells 2048 2 (past lf l))
     by SettingsLine.Unreadable e = refl
     by (SettingsLine.Settings D M T) e =
         let short = settings-short l D M T e in
         ap (readingOf (SettingsLine.Settings D M T))
-        (ap (cells 2048 2) (past-of-take 86080 l (omega arith)) ∙ cells-of-take 2048 2 (86080 - (position lf l + 1)) (past lf l) (omega arith))
+        (ap (cells 2048 2) (past-of-take n l (omega arith)) ∙ cells-of-take 2048 2 (n - (position lf l + 1)) (past lf l) (omega arith))
 
--- What is printed for the first 86,080 bytes is printed for the whole text.
-pub prefix-is-enough : (l : List ℕ) → mombuild (take 86080 l) ≡ mombuild l
+-- What is printed for the first 86,080 bytes, or more, is printed for the whole text.
+pub prefix-is-enough : (n : ℕ) (l : List ℕ) → 86080 ≤ n → mombuild (take n l) ≡ mombuild l
 unfolding mombuild
-prefix-is-enough l = ap printed (reading-of-take l)
+prefix-is-enough n l p = ap printed (reading-of-take n l p)

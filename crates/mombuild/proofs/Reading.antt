@@ -1,4 +1,4 @@
--- The laws of the program: what it prints, by the lines of its text. Assumes nothing.
+-- The laws of reading: what is read of a text, line by line, and what is printed then. Assumes nothing.
 use mathlib.Core.Path.{_≡_, refl, ap, sym, _∙_}
 use mathlib.Core.Bool.{false}
 use mathlib.Core.List.{List}
@@ -14,6 +14,8 @@ use borrow.Author.Tests.{lt-ltb, le-ltb}
 use Rattle.merger.specs.Floats.{_⊘_, float}
 use Rattle.text.specs.Text.{lf, position, upTo, past}
 use Rattle.mombuild.specs.Mombuild.{reading, thousandths, mapText, mombuild}
+use Rattle.mombuild.specs.Steps.{TextIs}
+use Rattle.mombuild.specs.declared.Text.{Text}
 use Rattle.map_text.specs.Lines.{settingsLine, firstSettings, Cells, cells, refusedText}
 use Rattle.map_text.specs.Steps.{cellLines, CellsAre}
 use Rattle.map_text.specs.declared.read.SettingsLine.{SettingsLine}
@@ -25,17 +27,18 @@ unfolding thousandths Ieee.ofInt
 thousandths-is T = refl
 
 -- ---- line 1
-pub unended : (l : List ℕ) → position lf l ≡ length l → refusedText 0 1 ≡ mombuild l
-unfolding mombuild reading firstSettings
-unended l e = rw (le-ltb (position lf l) (length l) (omega arith)) refl
-
-first-is : (l : List ℕ) (k : ℕ) → k ≡ position lf l → k < length l → firstSettings l ≡ settingsLine (take k l)
+first-is : (l : List ℕ) {k : ℕ} → k ≡ position lf l → k < length l → firstSettings l ≡ settingsLine (take k l)
 unfolding firstSettings upTo
-first-is l k e p = rw (lt-ltb (position lf l) (length l) (omega arith), e) refl
+first-is l {k} e p = rw (lt-ltb (position lf l) (length l) (omega arith), e) refl
 
-pub no-settings : (l : List ℕ) {k : ℕ} → k ≡ position lf l → k < length l → settingsLine (take k l) ≡ SettingsLine.Unreadable → refusedText 0 1 ≡ mombuild l
-unfolding mombuild reading
-no-settings l {k} e p s = rw (first-is l k e p, s) refl
+module _ (l : List ℕ) {k : ℕ} (e : k ≡ position lf l) {hs ns : List ℕ} where
+  pub unended : k ≡ length l → TextIs l (Text.Unreadable 1) hs ns
+  unfolding reading firstSettings
+  unended p = record { reads = rw (le-ltb (position lf l) (length l) (omega arith)) refl; hashes-fit = omega arith; counts-fit = omega arith; few = omega arith }
+
+  pub no-settings : k < length l → settingsLine (take k l) ≡ SettingsLine.Unreadable → TextIs l (Text.Unreadable 1) hs ns
+  unfolding reading
+  no-settings p s = record { reads = rw (first-is l e p, s) refl; hashes-fit = omega arith; counts-fit = omega arith; few = omega arith }
 
 -- ---- the lines behind it
 is-unreadable : (n : ℕ) (u : Option ℕ) (line : ℕ) → CellLines.Unreadable line ≡ cellLines n u → u ≡ some line
@@ -48,30 +51,33 @@ is-readable m (some x) n e = let z : _≡_ {A = ℕ} 0 1 = cc in absurd (omega a
 
 module _ (l : List ℕ) {k : ℕ} (e : k ≡ position lf l) (p : k < length l) {D M T : ℕ} (s : settingsLine (take k l) ≡ SettingsLine.Settings D M T)
     {r : CellLines} {hs ns hs′ ns′ : List ℕ} (w : CellsAre (cells 2048 2 (past lf l)) r hs ns hs′ ns′) where
-  pub no-cell : {line : ℕ} → r ≡ CellLines.Unreadable line → refusedText 0 line ≡ mombuild l
-  unfolding mombuild reading
-  no-cell {line} q = rw (first-is l k e p, s, is-unreadable _ (cells 2048 2 (past lf l) .unreadable) line (sym q ∙ w .answer)) refl
+  pub no-cell : {line : ℕ} → r ≡ CellLines.Unreadable line → TextIs l (Text.Unreadable line) hs′ ns′
+  unfolding reading
+  no-cell {line} q =
+      let stops = is-unreadable _ (cells 2048 2 (past lf l) .unreadable) line (sym q ∙ w .answer) in
+      record { reads = rw (first-is l e p, s, stops) refl; hashes-fit = omega arith; counts-fit = omega arith; few = omega arith }
 
   -- The cells stand in the first n places of the buffers.
-  n-fits : {n : ℕ} → r ≡ CellLines.Cells n → (n ≡ length (cells 2048 2 (past lf l) .hashes)) × (n ≡ length (cells 2048 2 (past lf l) .counts))
-  n-fits {n} q =
-      let m = is-readable _ (cells 2048 2 (past lf l) .unreadable) n (sym q ∙ w .answer) in
-      (m .1, m .1 ∙ w .paired)
-
-  pub within : {n : ℕ} → r ≡ CellLines.Cells n → (n ≤ length hs′) × (n ≤ length ns′)
-  within {n} q =
-      let c = cells 2048 2 (past lf l) in
-      let f = n-fits q in (
-        omega (arith, f .0, ap length (w .hashes-are), length-append (c .hashes) (drop (length (c .hashes)) hs)),
-        omega (arith, f .1, ap length (w .counts-are), length-append (c .counts) (drop (length (c .counts)) ns)),
-      )
-
-  pub all-cells : {n : ℕ} → r ≡ CellLines.Cells n → {t : Float} → t ≡ thousandths T → mapText D M t (take n hs′) (take n ns′) ≡ mombuild l
-  unfolding mombuild reading
-  all-cells {n} q {t} v =
+  pub all-cells : {n : ℕ} → r ≡ CellLines.Cells n → TextIs l (Text.Readable D M T n) hs′ ns′
+  unfolding reading
+  all-cells {n} q =
       let c = cells 2048 2 (past lf l) in
       let m = is-readable _ (c .unreadable) n (sym q ∙ w .answer) in
-      let f = n-fits q in
-      let front = ap (take n) (w .hashes-are) ∙ take-at (c .hashes) (drop (length (c .hashes)) hs) n (sym (f .0)) in
-      let back = ap (take n) (w .counts-are) ∙ take-at (c .counts) (drop (length (c .counts)) ns) n (sym (f .1)) in
-      rw (first-is l k e p, s, m .0, front, back, v) refl
+      let front = ap (take n) (w .hashes-are) ∙ take-at (c .hashes) (drop (length (c .hashes)) hs) n (sym (m .1)) in
+      let back = ap (take n) (w .counts-are) ∙ take-at (c .counts) (drop (length (c .counts)) ns) n (sym (m .1 ∙ w .paired)) in
+      record {
+        reads = rw (first-is l e p, s, m .0, front, back) refl;
+        hashes-fit = omega (arith, m .1, ap length (w .hashes-are), length-append (c .hashes) (drop (length (c .hashes)) hs));
+        counts-fit = omega (arith, m .1, w .paired, ap length (w .counts-are), length-append (c .counts) (drop (length (c .counts)) ns));
+        few = omega (arith, m .1, w .fit);
+      }
+
+-- ---- what is printed
+module _ {l hs ns : List ℕ} where
+  pub prints-refusal : {line : ℕ} → TextIs l (Text.Unreadable line) hs ns → refusedText 0 line ≡ mombuild l
+  unfolding mombuild
+  prints-refusal w = rw (w .reads) refl
+
+  pub prints-map : {D M T n : ℕ} → TextIs l (Text.Readable D M T n) hs ns → {t : Float} → t ≡ thousandths T → mapText D M t (take n hs) (take n ns) ≡ mombuild l
+  unfolding mombuild
+  prints-map w v = rw (w .reads, v) refl

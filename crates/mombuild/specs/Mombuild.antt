@@ -1,16 +1,22 @@
 -- Section 7 of the scope: what the program `mombuild` reads and prints.
-use mathlib.Core.List.{List, _++_}
+use mathlib.Core.Path.{_≡_}
+use mathlib.Core.Bool.{cond}
+use mathlib.Core.List.{List, [], _∷_, _++_}
 use mathlib.Core.Option.{Option, none, some}
-use Prim.Native.Nat.{ℕ}
+use Prim.Native.Nat.{ℕ, zero, suc, _+_}
+use lib.Dec.{eqb}
 use lib.Ieee.{Float}
-use lib.ListN.{take, replicate}
+use lib.IntN.{ℤ, pos, negsuc}
+use lib.ListN.{length, take, replicate}
 use Rattle.refusal.specs.Refusals.{numberOf, placeOf}
 use Rattle.merger.specs.Floats.{_⊘_, float}
 use Rattle.build.specs.Counts.{addCounts}
 use Rattle.build.specs.declared.counts.CountsAdded.{CountsAdded}
-use Rattle.text.specs.Text.{lf, past}
+use Rattle.text.specs.Text.{lf, past, Written}
 use Rattle.map_text.specs.declared.read.SettingsLine.{SettingsLine}
 use Rattle.map_text.specs.Lines.{firstSettings, Cells, cells, entriesText, endText, refusedText}
+use Rattle.mombuild.specs.declared.Input.{Input}
+use Rattle.mombuild.specs.declared.Step.{Step}
 
 -- what is read of a text: all of its numbers, or "the line (from 1)" that is the first unreadable one
 pub data Reading : Type 0 where
@@ -55,3 +61,38 @@ printed (readable D M T hs ns) = mapText D M (thousandths T) hs ns
 -- The program: what it prints, by what it reads. "All text is read before anything is checked."
 unfoldable pub mombuild : List ℕ → List ℕ
 mombuild l = printed (reading l)
+
+-- ---- a read that fails
+-- how often a byte stands in a text
+unfoldable pub occurrences : ℕ → List ℕ → ℕ
+occurrences b [] = 0
+occurrences b (x ∷ l) = cond (eqb x b) (suc (occurrences b l)) (occurrences b l)
+
+-- the first line that could not be read whole where a read failed behind l: the first unreadable one of l, else the one that begins behind
+-- its last LF
+abbrev pub brokenLine : List ℕ → Reading → ℕ
+brokenLine l (unreadable line) = line
+brokenLine l (readable D M T hs ns) = occurrences lf l + 1
+
+-- what is printed then: no map
+unfoldable pub brokenOff : List ℕ → List ℕ
+brokenOff l = refusedText 0 (brokenLine l (reading l))
+
+-- what a read behind n bytes comes to, by its answer: "how many bytes it put at the start", "0 at the end of the input", "-1" where it failed
+abbrev pub stepOf : ℤ → ℕ → Step
+stepOf (negsuc k) n = Step.Done (Input.Failed n)
+stepOf (pos zero) n = Step.Done (Input.Read n)
+stepOf (pos (suc k)) n = Step.More (suc k)
+
+-- ---- the buffers
+-- how many bytes were read
+abbrev pub bytesOf : Input → ℕ
+bytesOf (Input.Read n) = n
+bytesOf (Input.Failed n) = n
+
+-- What is written for an input of which so many bytes stand in the program's buffer. It is what the whole input asks for, whatever that is:
+-- the bytes are its first ones, as many as the buffer has places, and so all of it where the buffer has a place left.
+abbrev pub PrintedFor : Input → (buffer before after : List ℕ) → ℕ → Type 0
+PrintedFor (Input.Read n) buffer before after end =
+    (whole : List ℕ) → take n buffer ≡ take (length buffer) whole → Written before 0 (mombuild whole) after end
+PrintedFor (Input.Failed n) buffer before after end = Written before 0 (brokenOff (take n buffer)) after end

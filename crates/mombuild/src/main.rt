@@ -12,18 +12,23 @@
 //     3,4          end,2,11
 //     5,0
 //
-// The work is done by `mombuild`, on slices; `main` only reads, calls it and writes.
-ghost use Prim.Native.Nat.{_+_, _≤_};
+// A read that fails is told as an unreadable line, that in which it broke off, and never taken for the
+// end of the text.
+//
+// The work is done by `print_input`, on the program's buffers; `main` only reads, calls it and writes.
+ghost use mathlib.Core.Path.{_≡_};
+ghost use Prim.Native.Nat.{_≤_};
 ghost use lib.ListN.{length};
+ghost use Rattle.io.specs.Counts.{Counts};
 ghost use Rattle.text.specs.Text.{Written};
-ghost use Rattle.mombuild.specs.Mombuild.{mombuild as mombuildOf, mapText, answerText};
-ghost use Rattle.mombuild.specs.Steps.{EntriesFit};
+ghost use Rattle.mombuild.specs.Mombuild.{mombuild as mombuildOf, brokenOff, mapText, answerText, bytesOf, stepOf, PrintedFor};
+ghost use Rattle.mombuild.specs.Steps.{TextIs};
 use build::counts::CountsAdded;
 use build_counts::add_counts;
 use libc::STDIN_FILENO;
 use libc::STDOUT_FILENO;
-use map_text::print::print_end;
-use map_text::print::print_entries;
+use map_text::print::MAX_OUTPUT;
+use map_text::print::print_map;
 use map_text::print::print_refused;
 use map_text::read::CellLines;
 use map_text::read::MAX_CELLS;
@@ -37,62 +42,160 @@ use text::find;
 const UNREADABLE: u64 = 0;
 
 // One byte more than the longest readable text, a line of 63 bytes and 2,048 of 42. Of a longer
-// text the first unreadable line is in this many bytes, so that no more has to be read
-// (`prefix-is-enough`).
+// text the first unreadable line is in this many bytes, so that no more has to be read.
 const MAX_INPUT: usize = 63 + 42 * MAX_CELLS + 1;
 
-// The longest text printed: 2,048 entries and the last line, of at most 63 bytes each.
-const MAX_OUTPUT: usize = 63 * (MAX_CELLS + 1);
+// What could be read of the input: it ends behind so many bytes, or goes on where they fill the
+// buffer; or a read failed behind so many.
+enum Input {
+    Read(usize),
+    Failed(usize),
+}
+
+// What one read comes to: so many bytes more, or the end of reading.
+enum Step {
+    More(usize),
+    Done(Input),
+}
+
+// The numbers of a text, its cells standing in two buffers, or its first unreadable line.
+enum Text {
+    Readable {
+        depth: u8,
+        depth_threshold: u8,
+        thousandths: u32,
+        cells: usize,
+    },
+    Unreadable(usize),
+}
 
 fn main() {
-    let mut input = [0u8; MAX_INPUT];
-    let length = io::read_full(STDIN_FILENO, &mut input);
+    let mut buffer = [0u8; MAX_INPUT];
+    let input = read_input(&mut buffer);
     let mut output = [0u8; MAX_OUTPUT];
-    let end = mombuild(&input[..length], &mut output);
+    let end = print_input(&buffer, input, &mut output);
     io::write_all(STDOUT_FILENO, &output[..end]);
 }
 
-// Writes what is printed for a text to the front of a buffer; answers its length.
-fn mombuild(input: &[u8], output: &mut [u8; MAX_OUTPUT]) -> usize
-    ensures { λ r. ⌜ Written (now (output .entry)) 0 (mombuildOf (now (input .entry))) (now (output .exit)) r ⌝ }
+// Reads the standard input until the buffer is full, the input ends or a read fails.
+fn read_input(buffer: &mut [u8]) -> Input
+    ensures { λ r. ⌜ bytesOf r ≤ length (now (buffer .exit)) ⌝ }
 {
-    let end = find(input, LF);
-    if end == input.len() {
-        return print_refused(output, UNREADABLE, 1);
+    let mut n = 0;
+    while n < buffer.len() {
+        let answer = libc::read(STDIN_FILENO, &mut buffer[n..]);
+        match step_of(answer, n) {
+            Step::Done(input) => return input,
+            Step::More(bytes) => n += bytes,
+        }
+    }
+    Input::Read(n)
+}
+
+// What a read behind n bytes answered: a negative number where it failed, 0 at the end.
+fn step_of(answer: isize, n: usize) -> Step
+    ensures { λ r. ⌜ r ≡ stepOf «answer» n ⌝ }
+{
+    if answer < 0 {
+        return Step::Done(Input::Failed(n));
+    }
+    if answer == 0 {
+        return Step::Done(Input::Read(n));
+    }
+    Step::More(answer as usize)
+}
+
+// Writes what is printed for an input to the front of a buffer; answers its length.
+fn print_input(buffer: &[u8; MAX_INPUT], input: Input, output: &mut [u8; MAX_OUTPUT]) -> usize
+    requires { ⌜ bytesOf input ≤ length (now buffer) ⌝ }
+    ensures { λ r. ⌜ PrintedFor input (now (buffer .entry)) (now (output .entry)) (now (output .exit)) r ⌝ }
+    ensures { λ r. ⌜ Counts r (now (output .exit)) ⌝ }
+{
+    let bytes: &[u8] = buffer;
+    match input {
+        Input::Read(n) => mombuild(&bytes[..n], output),
+        Input::Failed(n) => print_broken_off(&bytes[..n], output),
+    }
+}
+
+// What is printed for a whole text.
+fn mombuild(text: &[u8], output: &mut [u8; MAX_OUTPUT]) -> usize
+    ensures { λ r. ⌜ Written (now (output .entry)) 0 (mombuildOf (now (text .entry))) (now (output .exit)) r ⌝ }
+{
+    let mut hashes = [0u64; MAX_CELLS];
+    let mut counts = [0u32; MAX_CELLS];
+    match read_text(text, &mut hashes, &mut counts) {
+        Text::Unreadable(line) => print_refused(output, UNREADABLE, line as u64),
+        Text::Readable {
+            depth,
+            depth_threshold,
+            thousandths,
+            cells,
+        } => print_built(
+            output,
+            depth,
+            depth_threshold,
+            thousandths as f64 / 1000.0,
+            &hashes[..cells],
+            &counts[..cells],
+        ),
+    }
+}
+
+// What is printed for a text behind which a read failed.
+fn print_broken_off(text: &[u8], output: &mut [u8; MAX_OUTPUT]) -> usize
+    ensures { λ r. ⌜ Written (now (output .entry)) 0 (brokenOff (now (text .entry))) (now (output .exit)) r ⌝ }
+{
+    let mut hashes = [0u64; MAX_CELLS];
+    let mut counts = [0u32; MAX_CELLS];
+    match read_text(text, &mut hashes, &mut counts) {
+        Text::Unreadable(line) => print_refused(output, UNREADABLE, line as u64),
+        // The line behind the settings and the cells.
+        Text::Readable {
+            depth: _,
+            depth_threshold: _,
+            thousandths: _,
+            cells,
+        } => print_refused(output, UNREADABLE, cells as u64 + 2),
+    }
+}
+
+// Reads all lines of a text.
+fn read_text(text: &[u8], hashes: &mut [u64; MAX_CELLS], counts: &mut [u32; MAX_CELLS]) -> Text
+    ensures { λ r. ⌜ TextIs (now (text .entry)) r (now (hashes .exit)) (now (counts .exit)) ⌝ }
+{
+    let end = find(text, LF);
+    if end == text.len() {
+        return Text::Unreadable(1);
     }
     let SettingsLine::Settings {
         depth,
         depth_threshold,
         thousandths,
-    } = read_settings(&input[..end])
+    } = read_settings(&text[..end])
     else {
-        return print_refused(output, UNREADABLE, 1);
+        return Text::Unreadable(1);
     };
-    let mut hashes = [0u64; MAX_CELLS];
-    let mut counts = [0u32; MAX_CELLS];
-    match read_cells(&input[end + 1..], &mut hashes, &mut counts) {
-        CellLines::Unreadable(line) => print_refused(output, UNREADABLE, line as u64),
-        CellLines::Cells(n) => print_map(
-            output,
+    match read_cells(&text[end + 1..], hashes, counts) {
+        CellLines::Unreadable(line) => Text::Unreadable(line),
+        CellLines::Cells(cells) => Text::Readable {
             depth,
             depth_threshold,
-            thousandths as f64 / 1000.0,
-            &hashes[..n],
-            &counts[..n],
-        ),
+            thousandths,
+            cells,
+        },
     }
 }
 
 // Builds the map and writes it, or why it is refused.
-fn print_map(
-    output: &mut [u8],
+fn print_built(
+    output: &mut [u8; MAX_OUTPUT],
     depth: u8,
     depth_threshold: u8,
     chi2_threshold: f64,
     hashes: &[u64],
     counts: &[u32],
 ) -> usize
-    requires { ⌜ 129087 ≤ length (now output) ⌝ }
     ensures { λ r. ⌜ Written (now (output .entry)) 0 (mapText depth «depth_threshold» «chi2_threshold» (now (hashes .entry)) (now (counts .entry))) (now (output .exit)) r ⌝ }
 {
     let mut map_zuniqs = [0u64; MAX_CELLS];
@@ -111,8 +214,12 @@ fn print_map(
 }
 
 // Writes what an add call answered, with the map that it left.
-fn print_answer(output: &mut [u8], added: CountsAdded, zuniqs: &[u64], counts: &[u32]) -> usize
-    requires { ⌜ (129087 ≤ length (now output)) × EntriesFit added (now zuniqs) (now counts) ⌝ }
+fn print_answer(
+    output: &mut [u8; MAX_OUTPUT],
+    added: CountsAdded,
+    zuniqs: &[u64; MAX_CELLS],
+    counts: &[u32; MAX_CELLS],
+) -> usize
     ensures { λ r. ⌜ Written (now (output .entry)) 0 (answerText added (now (zuniqs .entry)) (now (counts .entry))) (now (output .exit)) r ⌝ }
 {
     match added {
@@ -121,9 +228,12 @@ fn print_answer(output: &mut [u8], added: CountsAdded, zuniqs: &[u64], counts: &
             refusal.number() as u64,
             refusal.place() as u64,
         ),
-        CountsAdded::Added { entries, total } => {
-            let at = print_entries(output, &zuniqs[..entries], &counts[..entries]);
-            print_end(output, at, entries as u64, total as u64)
-        }
+        CountsAdded::Added { entries, total } => print_map(
+            output,
+            zuniqs,
+            counts,
+            entries,
+            total as u64,
+        ),
     }
 }
