@@ -44,7 +44,10 @@ enum-told : tie.Need-enum-told
 enum-told c = search needs
 
 returns-3 : tie.Need-returns-3
-returns-3 c = settings-are (c .before .before .before .before .before .before .before .before .before .before .args .line .now) (c .before .before .before .before .before .before .before .before .find .ensures .0) refl (c .before .before .before .before .before .find2 .ensures .0) (sym (c .before .before .read-number .ensures) ∙ c .enum-told .given .1) refl refl
+returns-3 c = let line = c .before .before .before .before .before .before .before .before .before .before .args .line .now in
+    let first = c .before .before .before .before .before .before .before .before .find .ensures .0 in
+    let second = c .before .before .before .before .before .find2 .ensures .0 in
+    settings-are line first refl second (sym (c .before .before .read-number .ensures) ∙ c .enum-told .given .1) refl refl
 
 slice-aggregate-read-number-2 : tie.Need-slice-aggregate-read-number-2
 slice-aggregate-read-number-2 c = search needs
@@ -59,8 +62,11 @@ enum-told-2 : tie.Need-enum-told-2
 enum-told-2 c = search needs
 
 returns-4 : tie.Need-returns-4
-returns-4 c = let depth = sym (c .before .before .before .before .before .before .before .read-number .ensures) ∙ c .before .before .before .before .before .depth .given .1 in
-    settings-are (c .before .before .before .before .before .before .before .before .before .before .before .before .before .before .before .args .line .now) (c .before .before .before .before .before .before .before .before .before .before .before .before .before .find .ensures .0) refl (c .before .before .before .before .before .before .before .before .before .before .find2 .ensures .0) depth (sym (c .before .before .read-number2 .ensures) ∙ c .enum-told2 .given .1) refl
+returns-4 c = let line = c .before .before .before .before .before .before .before .before .before .before .before .before .before .before .before .args .line .now in
+    let first = c .before .before .before .before .before .before .before .before .before .before .before .before .before .find .ensures .0 in
+    let second = c .before .before .before .before .before .before .before .before .before .before .find2 .ensures .0 in
+    let depth = sym (c .before .before .before .before .before .before .before .read-number .ensures) ∙ c .before .before .before .before .before .depth .given .1 in
+    settings-are line first refl second depth (sym (c .before .before .read-number2 .ensures) ∙ c .enum-told2 .given .1) refl
 
 add-read-number : tie.Need-add-read-number
 add-read-number c = search needs
@@ -84,23 +90,32 @@ enum-told-3 : tie.Need-enum-told-3
 enum-told-3 c = search needs
 
 returns-5 : tie.Need-returns-5
-returns-5 c = let depth = sym (c .before .before .before .before .before .before .before .before .before .before .before .before .read-number .ensures) ∙ c .before .before .before .before .before .before .before .before .before .before .depth .given .1 in
+returns-5 c = let line = c .before .before .before .before .before .before .before .before .before .before .before .before .before .before .before .before .before .before .before .before .args .line .now in
+    let first = c .before .before .before .before .before .before .before .before .before .before .before .before .before .before .before .before .before .before .find .ensures .0 in
+    let second = c .before .before .before .before .before .before .before .before .before .before .before .before .before .before .before .find2 .ensures .0 in
+    let depth = sym (c .before .before .before .before .before .before .before .before .before .before .before .before .read-number .ensures) ∙ c .before .before .before .before .before .before .before .before .before .before .depth .given .1 in
     let depth-threshold = sym (c .before .before .before .before .before .before .before .read-number2 .ensures) ∙ c .before .before .before .before .before .depth-threshold .given .1 in
-    settings-are (c .before .before .before .before .before .before .before .before .before .before .before .before .before .before .before .before .before .before .before .before .args .line .now) (c .before .before .before .before .before .before .before .before .before .before .before .before .before .before .before .before .before .before .find .ensures .0) refl (c .before .before .before .before .before .before .before .before .before .before .before .before .before .before .before .find2 .ensures .0) depth depth-threshold (sym (c .before .before .read-number3 .ensures) ∙ c .enum-told3 .given .1)
+    settings-are line first refl second depth depth-threshold (sym (c .before .before .read-number3 .ensures) ∙ c .enum-told3 .given .1)
 
 cast-t23 : tie.Need-cast-t23
-cast-t23 c = record { fits = omega (arith, number-le 255 _ (c .before .before .before .before .before .before .before .before .before .before .before .depth .given .0 .0) (sym (c .before .before .before .before .before .before .before .before .before .before .before .before .before .read-number .ensures) ∙ c .before .before .before .before .before .before .before .before .before .before .before .depth .given .1)) }
+cast-t23 c = let depth = sym (c .before .before .before .before .before .before .before .before .before .before .before .before .before .read-number .ensures) ∙ c .before .before .before .before .before .before .before .before .before .before .before .depth .given .1 in
+    record { fits = omega (arith, number-le 255 _ (c .before .before .before .before .before .before .before .before .before .before .before .depth .given .0 .0) depth) }
 
 cast-t24 : tie.Need-cast-t24
-cast-t24 c = record { fits = omega (arith, number-le 255 _ (c .before .before .before .before .before .before .depth-threshold .given .0 .0) (sym (c .before .before .before .before .before .before .before .before .read-number2 .ensures) ∙ c .before .before .before .before .before .before .depth-threshold .given .1)) }
+cast-t24 c = let depth-threshold = sym (c .before .before .before .before .before .before .before .before .read-number2 .ensures) ∙ c .before .before .before .before .before .before .depth-threshold .given .1 in
+    record { fits = omega (arith, number-le 255 _ (c .before .before .before .before .before .before .depth-threshold .given .0 .0) depth-threshold) }
 
 cast-t25 : tie.Need-cast-t25
-cast-t25 c = record { fits = omega (arith, number-le 4294967295 _ (c .before .thousandths .given .0 .0) (sym (c .before .before .before .read-number3 .ensures) ∙ c .before .thousandths .given .1)) }
+cast-t25 c = let thousandths = sym (c .before .before .before .read-number3 .ensures) ∙ c .before .thousandths .given .1 in
+    record { fits = omega (arith, number-le 4294967295 _ (c .before .thousandths .given .0 .0) thousandths) }
 
 returns-6 : tie.Need-returns-6
-returns-6 c = let depth = sym (c .before .before .before .before .before .before .before .before .before .before .before .before .before .read-number .ensures) ∙ c .before .before .before .before .before .before .before .before .before .before .before .depth .given .1 in
+returns-6 c = let line = c .before .before .before .before .before .before .before .before .before .before .before .before .before .before .before .before .before .before .before .before .before .args .line .now in
+    let first = c .before .before .before .before .before .before .before .before .before .before .before .before .before .before .before .before .before .before .before .find .ensures .0 in
+    let second = c .before .before .before .before .before .before .before .before .before .before .before .before .before .before .before .before .find2 .ensures .0 in
+    let depth = sym (c .before .before .before .before .before .before .before .before .before .before .before .before .before .read-number .ensures) ∙ c .before .before .before .before .before .before .before .before .before .before .before .depth .given .1 in
     let depth-threshold = sym (c .before .before .before .before .before .before .before .before .read-number2 .ensures) ∙ c .before .before .before .before .before .before .depth-threshold .given .1 in
-    settings-are (c .before .before .before .before .before .before .before .before .before .before .before .before .before .before .before .before .before .before .before .before .before .args .line .now) (c .before .before .before .before .before .before .before .before .before .before .before .before .before .before .before .before .before .before .before .find .ensures .0) refl (c .before .before .before .before .before .before .before .before .before .before .before .before .before .before .before .before .find2 .ensures .0) depth depth-threshold (sym (c .before .before .before .read-number3 .ensures) ∙ c .before .thousandths .given .1)
+    settings-are line first refl second depth depth-threshold (sym (c .before .before .before .read-number3 .ensures) ∙ c .before .thousandths .given .1)
 
 pub read-settings-spec : {M : Type 1} → statement M
 read-settings-spec =
