@@ -46,7 +46,7 @@ returns-4 c =
     let at = c .before .before .before .before in
     let query = at .before .before .before .before in
     let range = has-range 29 _ _ (sym (query .before .before .range-of .ensures) ∙ query .query .given .1) in
-    at-answer (query .before .before .before .if1 .left) range (omega (arith, at .before .if2 .left)) (c .before .before .before .if3 .taken) (sym (c .before .is-overlapped .ensures) ∙ c .if4 .taken)
+    at-answer (query .before .before .before .if1 .left) range (omega (arith, at .before .if2 .left)) (omega (arith, c .before .before .before .if3 .taken)) (sym (c .before .is-overlapped .ensures) ∙ c .if4 .taken)
 
 sub-is-overlapped : tie.Need-sub-is-overlapped
 sub-is-overlapped c = search needs

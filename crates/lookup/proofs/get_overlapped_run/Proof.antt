@@ -1,5 +1,6 @@
 -- `get_overlapped_run` meets its contract. Assumes nothing.
 use mathlib.Core.Path.{sym, _∙_}
+use native.Mathlib.Omega.{arith}
 use Rattle.mom.proofs.Ranges.{has-range}
 use Rattle.mom.proofs.Answers.{run-refused, run-answer, empty-answer}
 use borrow.Author.Needs.{needs}
@@ -35,14 +36,14 @@ returns-2 c =
     let at = c .before .before .before in
     let query = at .before .before in
     let range = has-range 29 _ _ (sym (query .before .before .range-of .ensures) ∙ query .query .given .1) in
-    run-answer range (at .lower-bound .ensures) (c .before .before .run-start .ensures) (c .before .run-end .ensures) (c .if1 .taken)
+    run-answer range (at .lower-bound .ensures) (c .before .before .run-start .ensures) (c .before .run-end .ensures) (omega (arith, c .if1 .taken))
 
 returns-3 : tie.Need-returns-3
 returns-3 c =
     let at = c .before .before .before in
     let query = at .before .before in
     let range = has-range 29 _ _ (sym (query .before .before .range-of .ensures) ∙ query .query .given .1) in
-    empty-answer range (at .lower-bound .ensures) (c .before .before .run-start .ensures) (c .before .run-end .ensures) (c .if1 .left)
+    empty-answer range (at .lower-bound .ensures) (c .before .before .run-start .ensures) (c .before .run-end .ensures) (omega (arith, c .if1 .left))
 
 pub get-overlapped-run-spec : {M : Type 1} → statement M
 get-overlapped-run-spec =
