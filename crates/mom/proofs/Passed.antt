@@ -42,15 +42,12 @@ module _ {K D : ℕ} {zs : List ℕ} {y b i : ℕ} (p : Passed K D zs y b i) whe
   unfolding faultFrom
   passed-all l = rw (p .rest, drop-of-length-le zs l) refl
 
-  module _ (l : i < length zs) where
-    -- the entry at place i
-    abbrev z : ℕ
-    z = getD zs i 0
-
+  -- the entry z at place i, however it was read
+  module _ (l : i < length zs) {z : ℕ} (read : z ≡ getD zs i 0) where
     -- The first fault is that of this entry, or one behind it.
     next : firstFault K D zs ≡ atOr i (faultAt K D (p .before) z) (faultFrom K D (suc i) (some z) (drop (suc i) zs))
     unfolding faultFrom
-    next = rw (p .rest, drop-cons zs i 0 l) refl
+    next = rw (p .rest, drop-cons zs i 0 l, read) refl
 
     pub not-zuniq-here : rangeOf K z ≡ Ranged.Nothing → firstFault K D zs ≡ FirstFault.At i Fault.NotZuniq
     unfolding atOr faultAt faultOf

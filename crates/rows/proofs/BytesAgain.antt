@@ -12,20 +12,9 @@ use Rattle.rows.specs.LittleEndian.{toLeBytes, fromLeBytes}
 use Rattle.rows.specs.Rows.{Column, column, rowSize, rowBytes, rowsBytes, numberIn, numbersIn, filled, lengths, places, readRows, writeAs, writeRows}
 use Rattle.rows.proofs.LittleEndian.{Below, to-from-le}
 use Rattle.rows.proofs.Accepted.{AllAre, lengths-same, readable, writes, was-read}
-use Rattle.rows.proofs.Loops.{length-numbers}
+use Rattle.rows.proofs.Loops.{length-numbers, number-at}
 
 -- ---- row by row
-
--- the number of row i is that which was read from it
-number-at : (k at w : ℕ) (bytes : List ℕ) (n i : ℕ) → i < n → getD (numbersIn k at w bytes n) i 0 ≡ numberIn k at w bytes i
-unfolding numbersIn
-number-at k at w bytes zero i h = absurd (omega arith)
-number-at k at w bytes (suc n) i h = go (eq-or-lt-of-le (le-of-suc-le-suc h)) (number-at k at w bytes n i)
-  where
-    go : (i ≡ n) ⊎ (i < n) → (i < n → getD (numbersIn k at w bytes n) i 0 ≡ numberIn k at w bytes i)
-        → getD (numbersIn k at w bytes n ++ (numberIn k at w bytes n ∷ [])) i 0 ≡ numberIn k at w bytes i
-    go (inl e) before = rw e (getD-at (numbersIn k at w bytes n) (numberIn k at w bytes n) [] 0 n (length-numbers k at w bytes n))
-    go (inr l) before = List·getD-append (numbersIn k at w bytes n) (numberIn k at w bytes n ∷ []) 0 i (rw (length-numbers k at w bytes n) l) ∙ before l
 
 -- a part of numbers below m
 below-take : (m : ℕ) (xs : List ℕ) (n : ℕ) → 0 < m → Below m xs → Below m (take n xs)

@@ -2,12 +2,13 @@
 -- reads a column, the other writes rows of two columns. Assumes nothing.
 use mathlib.Core.Path.{_≡_, refl, ap, sym, _∙_}
 use mathlib.Core.List.{List, [], _∷_, _++_, append-assoc, append-nil}
+use mathlib.Core.Logic.{_⊎_, inl, inr}
 use Prim.Native.Nat.{ℕ, zero, suc, _+_, _*_, _≤_, _<_}
-use native.Mathlib.Nat.{add-zero, zero-add, zero-mul, suc-mul, mul-le-mul-right, le-trans, div-mul-le-self}
+use native.Mathlib.Nat.{add-zero, zero-add, zero-mul, suc-mul, mul-le-mul-right, le-trans, le-of-suc-le-suc, eq-or-lt-of-le, div-mul-le-self}
 use native.Mathlib.Numerals.{add-one}
 use native.Mathlib.Omega.{arith}
-use lib.ListN.{length, getD, take, drop, set, length-append, length-drop}
-use lib.Seq.{drop-cons, append-snoc, drop-drop, set-at}
+use lib.ListN.{length, getD, take, drop, set, length-append, length-drop, List·getD-append}
+use lib.Seq.{drop-cons, append-snoc, drop-drop, set-at, getD-at}
 use Rattle.refusal.specs.declared.Refusal.{Refusal}
 use Rattle.rows.specs.declared.Rows.{Rows}
 use Rattle.rows.specs.LittleEndian.{toLeBytes, fromLeBytes, put}
@@ -23,6 +24,17 @@ pub length-numbers : (k at w : ℕ) (bytes : List ℕ) (n : ℕ) → length (num
 unfolding numbersIn
 length-numbers k at w bytes zero = refl
 length-numbers k at w bytes (suc n) = simp (length-append, length-numbers k at w bytes n, add-one)
+
+-- The number of row i is that which was read from it.
+pub number-at : (k at w : ℕ) (bytes : List ℕ) (n i : ℕ) → i < n → getD (numbersIn k at w bytes n) i 0 ≡ numberIn k at w bytes i
+unfolding numbersIn
+number-at k at w bytes zero i h = absurd (omega arith)
+number-at k at w bytes (suc n) i h = go (eq-or-lt-of-le (le-of-suc-le-suc h)) (number-at k at w bytes n i)
+  where
+    go : (i ≡ n) ⊎ (i < n) → (i < n → getD (numbersIn k at w bytes n) i 0 ≡ numberIn k at w bytes i)
+        → getD (numbersIn k at w bytes n ++ (numberIn k at w bytes n ∷ [])) i 0 ≡ numberIn k at w bytes i
+    go (inl e) before = rw e (getD-at (numbersIn k at w bytes n) (numberIn k at w bytes n) [] 0 n (length-numbers k at w bytes n))
+    go (inr l) before = List·getD-append (numbersIn k at w bytes n) (numberIn k at w bytes n ∷ []) 0 i (rw (length-numbers k at w bytes n) l) ∙ before l
 
 -- Storing the number of row i behind those before it reads one row more.
 store-next : (k at w : ℕ) (bytes xs : List ℕ) (i : ℕ) → i < length xs

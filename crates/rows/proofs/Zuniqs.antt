@@ -1,16 +1,18 @@
 -- Reading the zuniqs of count rows alone. Assumes nothing.
 use mathlib.Core.Path.{_≡_, refl, ap, sym, _∙_}
 use mathlib.Core.List.{List, [], _∷_, _++_}
-use Prim.Native.Nat.{ℕ, _*_, _/_, _≤_}
+use Prim.Native.Nat.{ℕ, _+_, _*_, _/_, _≤_, _<_}
 use native.Mathlib.Nat.{le-add-right}
-use lib.ListN.{length, take, drop, length-append}
+use native.Mathlib.Omega.{arith}
+use lib.ListN.{length, getD, take, drop, length-append, List·getD-eq-default}
 use lib.Seq.{take-append-seam}
 use borrow.Author.Tests.{eq-eqb}
 use Rattle.refusal.specs.declared.Refusal.{Refusal}
 use Rattle.rows.specs.declared.Rows.{Rows}
-use Rattle.rows.specs.Rows.{numbersIn, zuniqsOf, othersDiffer, differ, places, rowsToRead, readZuniqsAs, readZuniqs}
+use Rattle.rows.specs.LittleEndian.{fromLeBytes}
+use Rattle.rows.specs.Rows.{numberIn, numbersIn, zuniqsOf, othersDiffer, differ, places, rowsToRead, readZuniqsAs, readZuniqs}
 use Rattle.rows.proofs.Accepted.{readable, refused}
-use Rattle.rows.proofs.Loops.{length-numbers, read-pair-fits}
+use Rattle.rows.proofs.Loops.{length-numbers, number-at, read-pair-fits}
 
 -- One buffer is as good as two of its length.
 alone : (k bytes n : ℕ) → rowsToRead k bytes (n ∷ []) ≡ rowsToRead k bytes (n ∷ n ∷ [])
@@ -18,9 +20,17 @@ unfolding rowsToRead differ othersDiffer places
 alone k bytes n = rw (eq-eqb n n refl) refl
 
 -- There are as many zuniqs as rows.
-all-zuniqs : (bytes : List ℕ) → length (zuniqsOf bytes) ≡ length bytes / 12
+pub all-zuniqs : (bytes : List ℕ) → length (zuniqsOf bytes) ≡ length bytes / 12
 unfolding zuniqsOf
 all-zuniqs bytes = length-numbers 12 0 8 bytes (length bytes / 12)
+
+-- The zuniq of a row is read from its first 8 bytes; past the last row it is 0.
+pub zuniq-of-row : (bytes : List ℕ) (i : ℕ) → i < length bytes / 12 → fromLeBytes (take 8 (drop (i * 12) bytes)) ≡ getD (zuniqsOf bytes) i 0
+unfolding zuniqsOf numberIn
+zuniq-of-row bytes i l = let e : i * 12 + 0 ≡ i * 12 = omega arith in sym (rw e at (number-at 12 0 8 bytes (length bytes / 12) i l))
+
+pub no-row : (bytes : List ℕ) (i : ℕ) → length bytes / 12 ≤ i → 0 ≡ getD (zuniqsOf bytes) i 0
+no-row bytes i l = sym (List·getD-eq-default (zuniqsOf bytes) 0 (rw (all-zuniqs bytes) l))
 
 module _ (bytes zs : List ℕ) where
   pub read-zuniqs-refused : (r : Refusal) → rowsToRead 12 (length bytes) (length zs ∷ length zs ∷ []) ≡ Rows.Refused r → (Rows.Refused r, zs) ≡ readZuniqs zs bytes

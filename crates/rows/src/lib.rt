@@ -12,7 +12,8 @@
 // rows (number 4), then too little space (11). A refusal touches nothing; what is past the rows
 // stays as it was.
 ghost use mathlib.Core.Path.{_≡_};
-ghost use Rattle.rows.specs.Rows.{countRows, densityRows, readRows, readZuniqs, writeRows};
+ghost use lib.ListN.{getD};
+ghost use Rattle.rows.specs.Rows.{zuniqsOf, countRows, densityRows, readRows, readZuniqs, writeRows};
 use refusal::Refusal;
 
 mod little_endian;
@@ -21,6 +22,7 @@ mod writing;
 
 use little_endian::put_u32;
 use little_endian::put_u64;
+use little_endian::u64_at;
 use reading::read_u32_column;
 use reading::read_u64_column;
 use reading::rows_to_read;
@@ -33,7 +35,7 @@ pub enum Rows {
 }
 
 // The bytes of a row: a zuniq, then a count or a density.
-const COUNT_ROW: usize = 12;
+pub const COUNT_ROW: usize = 12;
 
 const DENSITY_ROW: usize = 16;
 
@@ -63,6 +65,16 @@ pub fn read_zuniqs(bytes: &[u8], zuniqs: &mut [u64]) -> Rows
     };
     read_u64_column(bytes, COUNT_ROW, 0, rows, zuniqs);
     answer
+}
+
+// The zuniq of a count row, read where it stands; 0, which is no zuniq, past the last row.
+pub fn zuniq_at(bytes: &[u8], row: usize) -> u64
+    ensures { λ r. ⌜ r ≡ getD (zuniqsOf (now (bytes .entry))) row 0 ⌝ }
+{
+    if row < bytes.len() / COUNT_ROW {
+        return u64_at(bytes, row * COUNT_ROW);
+    }
+    0
 }
 
 pub fn read_density_rows(bytes: &[u8], zuniqs: &mut [u64], patterns: &mut [u64]) -> Rows
