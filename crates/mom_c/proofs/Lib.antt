@@ -1,2 +1,1 @@
 pub mod Added
-pub mod MapRows

@@ -6,31 +6,27 @@
 // query that is no zuniq, or in `mom_get_cell_containing` not of the map's depth (12).
 ghost use mathlib.Core.Path.{_≡_};
 ghost use Rattle.rows.specs.Rows.{countRows, densityRows, readRows, writeRows};
+ghost use Rattle.map_rows.specs.MapRows.{checkRows};
 ghost use Rattle.density.specs.Densities.{densityOfCount, densityOfPattern, patternOfDensity};
 ghost use Rattle.words.specs.Words.{mapCheckWord, countDensityWord, patternDensityWord, densityPatternWord};
-ghost use Rattle.mom_c.specs.Ingest.{told, checkRows, ContainingInRows, RunInRows};
-use crate::mom_check_is_mom_zuniqs;
-use crate::mom_get_cell_containing_zuniqs;
-use crate::mom_get_overlapped_cells_zuniqs;
+ghost use Rattle.mom_c.specs.Ingest.{told, ContainingInRows, RunInRows};
 use density::density_of_count;
 use density::density_of_pattern;
 use density::pattern_of_density;
+use map_rows::check_is_mom;
+use map_rows::get_cell_containing;
+use map_rows::get_overlapped_run;
+use map_words::containing_word;
 use map_words::count_density_word;
 use map_words::density_pattern_word;
+use map_words::map_check_word;
 use map_words::pattern_density_word;
 use map_words::rows_word;
-use refusal::Refusal;
-use rows::Rows;
+use map_words::run_word;
 use rows::read_count_rows;
 use rows::read_density_rows;
-use rows::read_zuniqs;
 use rows::write_count_rows;
 use rows::write_density_rows;
-use words::refused;
-use zuniq::Zuniq64;
-
-// A map comes as at most so many rows.
-const MAX_ROWS: usize = 4096;
 
 // Reads count rows into two buffers: the number of rows.
 #[no_mangle]
@@ -97,14 +93,7 @@ pub extern "C" fn mom_pattern_of_density(density: f64, pattern: &mut u64) -> u64
 pub extern "C" fn mom_check_is_mom(depth: u8, bytes: &[u8]) -> u64
     ensures { λ r. ⌜ r ≡ mapCheckWord (checkRows depth (now (bytes .entry))) ⌝ }
 {
-    if depth > Zuniq64::MAX_DEPTH {
-        return refused(Refusal::DepthOutOfRange);
-    }
-    let mut zuniqs = [0; MAX_ROWS];
-    match read_zuniqs(bytes, &mut zuniqs) {
-        Rows::Rows(rows) => mom_check_is_mom_zuniqs(depth, &zuniqs[..rows]),
-        Rows::Refused(refusal) => refused(refusal),
-    }
+    map_check_word(check_is_mom(depth, bytes))
 }
 
 // The row of the entry in which a cell of the map's depth lies, or that there is none.
@@ -112,14 +101,7 @@ pub extern "C" fn mom_check_is_mom(depth: u8, bytes: &[u8]) -> u64
 pub extern "C" fn mom_get_cell_containing(depth: u8, bytes: &[u8], zuniq: u64) -> u64
     ensures { λ r. ⌜ ContainingInRows depth (now (bytes .entry)) «zuniq» r ⌝ }
 {
-    if depth > Zuniq64::MAX_DEPTH {
-        return refused(Refusal::DepthOutOfRange);
-    }
-    let mut zuniqs = [0; MAX_ROWS];
-    match read_zuniqs(bytes, &mut zuniqs) {
-        Rows::Rows(rows) => mom_get_cell_containing_zuniqs(depth, &zuniqs[..rows], zuniq),
-        Rows::Refused(refusal) => refused(refusal),
-    }
+    containing_word(get_cell_containing(depth, bytes, zuniq))
 }
 
 // The rows of the entries that overlap a query: the first, and their number.
@@ -127,9 +109,5 @@ pub extern "C" fn mom_get_cell_containing(depth: u8, bytes: &[u8], zuniq: u64) -
 pub extern "C" fn mom_get_overlapped_cells(bytes: &[u8], zuniq: u64, number: &mut usize) -> u64
     ensures { λ r. ⌜ RunInRows (now (bytes .entry)) «zuniq» (now (number .entry)) r (now (number .exit)) ⌝ }
 {
-    let mut zuniqs = [0; MAX_ROWS];
-    match read_zuniqs(bytes, &mut zuniqs) {
-        Rows::Rows(rows) => mom_get_overlapped_cells_zuniqs(&zuniqs[..rows], zuniq, number),
-        Rows::Refused(refusal) => refused(refusal),
-    }
+    run_word(get_overlapped_run(bytes, zuniq), number)
 }
