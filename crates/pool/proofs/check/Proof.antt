@@ -1,7 +1,9 @@
 -- `check` meets its contract: each check is one row of the table. Assumes nothing.
-use mathlib.Core.Path.{refl}
+use mathlib.Core.Path.{_≡_, refl}
+use mathlib.Core.Option.{Option}
 use native.Mathlib.Omega.{arith}
 use lib.ListN.{length}
+use Rattle.refusal.specs.declared.Refusal.{Refusal}
 use Rattle.mom.specs.Map.{firstFault}
 use Rattle.build.specs.Map.{orElse}
 use Rattle.build.specs.Add.{mapRefusal, cappedSum}
@@ -11,6 +13,33 @@ use borrow.Author.Needs.{needs}
 use Rattle.pool.proofs.check.Statement.{statement}
 use Rattle.pool.proofs.check.Tie as tie
 
+-- ---- points on the way, and what is known there
+abbrev start : tie.After-check-settings → tie.Start
+start c = c .before .before .before .before .before
+
+abbrev settings : tie.Start → Option Refusal
+settings s = let a = s .args in settingsRefusal (a .left-depth) (a .right-depth) (a .depth-threshold) (a .chi2-threshold)
+
+abbrev pairs : tie.Start → Option Refusal
+pairs s =
+    let a = s .args in
+    pairsRefusal (length (a .left-zuniqs .now)) (length (a .left-counts .now)) (length (a .right-zuniqs .now)) (length (a .right-counts .now)) (a .places) (a .values)
+
+abbrev maps : tie.Start → Option Refusal
+maps s =
+    let a = s .args in
+    orElse (mapRefusal (firstFault 29 (a .left-depth) (a .left-zuniqs .now))) (mapRefusal (firstFault 29 (a .right-depth) (a .right-zuniqs .now)))
+
+settings-pass : (c : tie.After-enum-told) (o : Option Refusal) → orElse (settings (start (c .before .before))) o ≡ o
+settings-pass c o = let s = c .before .before in passes (settings (start s)) o (s .check-settings .ensures) (c .enum-told .given .1)
+
+pairs-pass : (c : tie.After-enum-told2) (o : Option Refusal) → orElse (pairs (start (c .before .before .before .before .before))) o ≡ o
+pairs-pass c o = let p = c .before .before in passes (pairs (start (p .before .before .before))) o (p .check-pairs .ensures) (c .enum-told2 .given .1)
+
+maps-pass : (c : tie.After-enum-told3) (o : Option Refusal) → orElse (maps (start (c .before .before .before .before .before .before .before .before))) o ≡ o
+maps-pass c o = let m = c .before .before in passes (maps (start (m .before .before .before .before .before .before))) o (m .check-maps .ensures) (c .enum-told3 .given .1)
+
+-- ---- the answers
 check-settings-requires : tie.Need-check-settings-requires
 check-settings-requires c κs = search needs
 
@@ -19,7 +48,9 @@ enum-known-refusal c = search needs
 
 returns : tie.Need-returns
 unfolding poolInputRefusal mapsRefusal
-returns c = let a = c .before .before .before .before .before .before .before .before .args in rw (refuses (settingsRefusal (a .left-depth) (a .right-depth) (a .depth-threshold) (a .chi2-threshold)) _ (c .before .before .before .check-settings .ensures) (c .before .refusal .given .1)) refl
+returns c =
+    let s = c .before .before .before in
+    rw (refuses (settings (start s)) _ (s .check-settings .ensures) (c .before .refusal .given .1)) refl
 
 enum-told : tie.Need-enum-told
 enum-told c = search needs
@@ -32,7 +63,9 @@ enum-known-refusal-2 c = search needs
 
 returns-2 : tie.Need-returns-2
 unfolding poolInputRefusal mapsRefusal
-returns-2 c = let a = c .before .before .before .before .before .before .before .before .before .before .before .args in rw (passes (settingsRefusal (a .left-depth) (a .right-depth) (a .depth-threshold) (a .chi2-threshold)) _ (c .before .before .before .before .before .before .check-settings .ensures) (c .before .before .before .before .enum-told .given .1), refuses (pairsRefusal (length (a .left-zuniqs .now)) (length (a .left-counts .now)) (length (a .right-zuniqs .now)) (length (a .right-counts .now)) (a .places) (a .values)) _ (c .before .before .before .check-pairs .ensures) (c .before .refusal2 .given .1)) refl
+returns-2 c =
+    let p = c .before .before .before in
+    rw (settings-pass (p .before) _, refuses (pairs (start (p .before .before .before))) _ (p .check-pairs .ensures) (c .before .refusal2 .given .1)) refl
 
 enum-told-2 : tie.Need-enum-told-2
 enum-told-2 c = search needs
@@ -45,7 +78,10 @@ enum-known-refusal-3 c = search needs
 
 returns-3 : tie.Need-returns-3
 unfolding poolInputRefusal mapsRefusal
-returns-3 c = let a = c .before .before .before .before .before .before .before .before .before .before .before .before .before .before .args in rw (passes (settingsRefusal (a .left-depth) (a .right-depth) (a .depth-threshold) (a .chi2-threshold)) _ (c .before .before .before .before .before .before .before .before .before .check-settings .ensures) (c .before .before .before .before .before .before .before .enum-told .given .1), passes (pairsRefusal (length (a .left-zuniqs .now)) (length (a .left-counts .now)) (length (a .right-zuniqs .now)) (length (a .right-counts .now)) (a .places) (a .values)) _ (c .before .before .before .before .before .before .check-pairs .ensures) (c .before .before .before .before .enum-told2 .given .1), refuses (orElse (mapRefusal (firstFault 29 (a .left-depth) (a .left-zuniqs .now))) (mapRefusal (firstFault 29 (a .right-depth) (a .right-zuniqs .now)))) _ (c .before .before .before .check-maps .ensures) (c .before .refusal3 .given .1)) refl
+returns-3 c =
+    let m = c .before .before .before in
+    let p = m .before .before .before in
+    rw (settings-pass (p .before) _, pairs-pass (m .before) _, refuses (maps (start (p .before .before .before))) _ (m .check-maps .ensures) (c .before .refusal3 .given .1)) refl
 
 enum-told-3 : tie.Need-enum-told-3
 enum-told-3 c = search needs
@@ -62,7 +98,13 @@ check-sums-requires c κs = (omega (arith, c .before .capped-sum .ensures), omeg
 
 returns-4 : tie.Need-returns-4
 unfolding poolInputRefusal mapsRefusal
-returns-4 c = let a = c .before .before .before .before .before .before .before .before .before .before .before .before .before .before .before .before .args in rw (passes (settingsRefusal (a .left-depth) (a .right-depth) (a .depth-threshold) (a .chi2-threshold)) _ (c .before .before .before .before .before .before .before .before .before .before .before .check-settings .ensures) (c .before .before .before .before .before .before .before .before .before .enum-told .given .1), passes (pairsRefusal (length (a .left-zuniqs .now)) (length (a .left-counts .now)) (length (a .right-zuniqs .now)) (length (a .right-counts .now)) (a .places) (a .values)) _ (c .before .before .before .before .before .before .before .before .check-pairs .ensures) (c .before .before .before .before .before .before .enum-told2 .given .1), passes (orElse (mapRefusal (firstFault 29 (a .left-depth) (a .left-zuniqs .now))) (mapRefusal (firstFault 29 (a .right-depth) (a .right-zuniqs .now)))) _ (c .before .before .before .before .before .check-maps .ensures) (c .before .before .before .enum-told3 .given .1)) (sums-uncapped (a .left-counts .now) (a .right-counts .now) (c .check-sums .result) (rw (c .before .before .capped-sum .ensures, c .before .capped-sum2 .ensures) at (c .check-sums .ensures)))
+returns-4 c =
+    let t = c .before .before .before in
+    let m = t .before .before in
+    let p = m .before .before .before in
+    let a = start (p .before .before .before) .args in
+    rw (settings-pass (p .before) _, pairs-pass (m .before) _, maps-pass t _)
+    (sums-uncapped (a .left-counts .now) (a .right-counts .now) (c .check-sums .result) (rw (c .before .before .capped-sum .ensures, c .before .capped-sum2 .ensures) at (c .check-sums .ensures)))
 
 pub check-spec : {M : Type 1} → statement M
 check-spec =

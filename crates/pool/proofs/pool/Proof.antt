@@ -1,16 +1,44 @@
 -- `pool` meets its contract. Assumes nothing.
-use mathlib.Core.Path.{sym, _∙_}
-use Prim.Native.Nat.{_+_}
+use mathlib.Core.Path.{_≡_, sym, _∙_}
+use mathlib.Core.Option.{Option, none}
+use Prim.Native.Nat.{ℕ, _+_}
 use lib.ListN.{length}
+use Rattle.refusal.specs.declared.Refusal.{Refusal}
 use Rattle.build.specs.Add.{sumOf}
 use Rattle.build.proofs.Checking.{total-passed, total-refused}
-use Rattle.combine.specs.Pool.{poolInputRefusal}
+use Rattle.combine.specs.Pool.{Given, poolInputRefusal}
 use Rattle.combine.proofs.Passed.{passed-holds}
 use Rattle.combine.proofs.PoolCall.{pool-input-passes, pool-refused, passed-total, pool-done}
 use borrow.Author.Needs.{needs}
 use Rattle.pool.proofs.pool.Statement.{statement}
 use Rattle.pool.proofs.pool.Tie as tie
 
+-- ---- points on the way: the input is checked, and its total is known
+abbrev start : tie.After-check → tie.Start
+start c = c .before .before .before .before .before .before .before
+
+abbrev checked : tie.After-total → tie.After-check
+checked c = c .before .before
+
+-- the two maps, what is refused of the input, and the total
+abbrev left : tie.Start → Given ℕ
+left s = record { depth = s .args .left-depth; zuniqs = s .args .left-zuniqs .now; values = s .args .left-counts .now }
+
+abbrev right : tie.Start → Given ℕ
+right s = record { depth = s .args .right-depth; zuniqs = s .args .right-zuniqs .now; values = s .args .right-counts .now }
+
+abbrev refusal : tie.Start → Option Refusal
+refusal s = let a = s .args in poolInputRefusal (left s) (right s) (a .depth-threshold) (a .chi2-threshold) (length (a .zuniqs .now)) (length (a .counts .now))
+
+abbrev total : tie.Start → ℕ
+total s = sumOf (s .args .left-counts .now) + sumOf (s .args .right-counts .now)
+
+accepted : (c : tie.After-total) → (refusal (start (checked c)) ≡ none) × (total (start (checked c)) ≡ c .total .given .0 .0)
+accepted c =
+    let s = start (checked c) in
+    total-passed (refusal s) (total s) (c .total .given .0 .0) (sym (checked c .check .ensures) ∙ c .total .given .1)
+
+-- ---- the answers
 check-requires : tie.Need-check-requires
 check-requires c κs = search needs
 
@@ -21,10 +49,21 @@ enum-known-total : tie.Need-enum-known-total
 enum-known-total c = search needs
 
 pool-checked-requires : tie.Need-pool-checked-requires
-pool-checked-requires c κs = let a = c .before .before .before .before .before .before .before .before .before .before .before .before .args in let q = total-passed (poolInputRefusal (record { depth = a .left-depth; zuniqs = a .left-zuniqs .now; values = a .left-counts .now }) (record { depth = a .right-depth; zuniqs = a .right-zuniqs .now; values = a .right-counts .now }) (a .depth-threshold) (a .chi2-threshold) (length (a .zuniqs .now)) (length (a .counts .now))) (sumOf (a .left-counts .now) + sumOf (a .right-counts .now)) (c .before .before .before .total .given .0 .0) (sym (c .before .before .before .before .before .check .ensures) ∙ c .before .before .before .total .given .1) in let p = pool-input-passes (record { depth = a .left-depth; zuniqs = a .left-zuniqs .now; values = a .left-counts .now }) (record { depth = a .right-depth; zuniqs = a .right-zuniqs .now; values = a .right-counts .now }) (a .depth-threshold) (a .chi2-threshold) _ _ (q .0) .0 in let h = passed-holds (record { depth = a .left-depth; zuniqs = a .left-zuniqs .now; values = a .left-counts .now }) (record { depth = a .right-depth; zuniqs = a .right-zuniqs .now; values = a .right-counts .now }) _ _ p in (h .0, h .1, passed-total (record { depth = a .left-depth; zuniqs = a .left-zuniqs .now; values = a .left-counts .now }) (record { depth = a .right-depth; zuniqs = a .right-zuniqs .now; values = a .right-counts .now }) (a .depth-threshold) (a .chi2-threshold) (a .zuniqs .now) (a .counts .now) p ∙ q .1, p .paired)
+pool-checked-requires c κs =
+    let t = c .before .before .before in
+    let s = start (checked t) in
+    let a = s .args in
+    let p = pool-input-passes (left s) (right s) (a .depth-threshold) (a .chi2-threshold) _ _ (accepted t .0) .0 in
+    let h = passed-holds (left s) (right s) _ _ p in
+    (h .0, h .1, passed-total (left s) (right s) (a .depth-threshold) (a .chi2-threshold) (a .zuniqs .now) (a .counts .now) p ∙ accepted t .1, p .paired)
 
 returns : tie.Need-returns
-returns c = let a = c .before .before .before .before .before .before .before .before .before .before .args in pool-refused (record { depth = a .left-depth; zuniqs = a .left-zuniqs .now; values = a .left-counts .now }) (record { depth = a .right-depth; zuniqs = a .right-zuniqs .now; values = a .right-counts .now }) (a .depth-threshold) (a .chi2-threshold) (a .zuniqs .now) (a .counts .now) (c .before .refusal .given .0 .0) (total-refused (poolInputRefusal (record { depth = a .left-depth; zuniqs = a .left-zuniqs .now; values = a .left-counts .now }) (record { depth = a .right-depth; zuniqs = a .right-zuniqs .now; values = a .right-counts .now }) (a .depth-threshold) (a .chi2-threshold) (length (a .zuniqs .now)) (length (a .counts .now))) (sumOf (a .left-counts .now) + sumOf (a .right-counts .now)) (c .before .refusal .given .0 .0) (sym (c .before .before .before .check .ensures) ∙ c .before .refusal .given .1))
+returns c =
+    let o = c .before .before .before in
+    let s = start o in
+    let a = s .args in
+    let r = c .before .refusal .given in
+    pool-refused (left s) (right s) (a .depth-threshold) (a .chi2-threshold) (a .zuniqs .now) (a .counts .now) (r .0 .0) (total-refused (refusal s) (total s) (r .0 .0) (sym (o .check .ensures) ∙ r .1))
 
 same-length : tie.Need-same-length
 same-length c = search needs
@@ -33,7 +72,12 @@ same-length-2 : tie.Need-same-length-2
 same-length-2 c = search needs
 
 returns-2 : tie.Need-returns-2
-returns-2 c = let a = c .before .before .before .before .before .before .before .before .before .before .before .before .before .before .before .before .before .args in pool-done (record { depth = a .left-depth; zuniqs = a .left-zuniqs .now; values = a .left-counts .now }) (record { depth = a .right-depth; zuniqs = a .right-zuniqs .now; values = a .right-counts .now }) (a .depth-threshold) (a .chi2-threshold) (a .zuniqs .now) (a .counts .now) (total-passed (poolInputRefusal (record { depth = a .left-depth; zuniqs = a .left-zuniqs .now; values = a .left-counts .now }) (record { depth = a .right-depth; zuniqs = a .right-zuniqs .now; values = a .right-counts .now }) (a .depth-threshold) (a .chi2-threshold) (length (a .zuniqs .now)) (length (a .counts .now))) (sumOf (a .left-counts .now) + sumOf (a .right-counts .now)) (c .before .before .before .before .before .before .before .before .total .given .0 .0) (sym (c .before .before .before .before .before .before .before .before .before .before .check .ensures) ∙ c .before .before .before .before .before .before .before .before .total .given .1) .0) _ (c .before .before .before .before .pool-checked .ensures)
+returns-2 c =
+    let k = c .before .before .before .before in
+    let t = k .before .before .before .before in
+    let s = start (checked t) in
+    let a = s .args in
+    pool-done (left s) (right s) (a .depth-threshold) (a .chi2-threshold) (a .zuniqs .now) (a .counts .now) (accepted t .0) _ (k .pool-checked .ensures)
 
 pub pool-spec : {M : Type 1} → statement M
 pool-spec =

@@ -1,7 +1,10 @@
 -- `pool_checked` meets its contract: the cells are counted, and merged where there is space. Assumes nothing.
 use mathlib.Core.Path.{ap}
+use mathlib.Core.List.{List}
+use Prim.Native.Nat.{ℕ}
 use native.Mathlib.Omega.{arith}
 use lib.ListN.{length}
+use Rattle.build.specs.Map.{Entry}
 use Rattle.build.proofs.Accepted.{cleared}
 use Rattle.combine.specs.Slices.{entriesOf}
 use Rattle.combine.proofs.PoolCall.{pool-no-space, pool-made}
@@ -9,8 +12,32 @@ use borrow.Author.Needs.{needs}
 use Rattle.pool.proofs.pool_checked.Statement.{statement}
 use Rattle.pool.proofs.pool_checked.Tie as tie
 
+-- ---- points on the way: the cells are counted, there is space for them, the pool is made
+abbrev start : tie.After-pool-cells-arg2 → tie.Start
+start c = c .before .before .before .before .before .before .before .before
+
+abbrev counted : tie.Else1 → tie.After-pool-cells
+counted c = c .before .before .before .before .before
+
+abbrev space : tie.After-pool-cells2 → tie.Else1
+space c = c .before .before .before
+
+abbrev made : tie.After-slice-known8 → tie.After-pool-cells2
+made c = c .before .before .before .before .before .before .before .before .before .before .before .before
+
+-- the entries of the two maps
+abbrev left : tie.Start → List (Entry ℕ)
+left s = entriesOf (s .args .left-zuniqs .now) (s .args .left-counts .now)
+
+abbrev right : tie.Start → List (Entry ℕ)
+right s = entriesOf (s .args .right-zuniqs .now) (s .args .right-counts .now)
+
+-- ---- the answers
 pool-cells-requires : tie.Need-pool-cells-requires
-pool-cells-requires c κs = let p = c .before .before .before .before .before .before .before .before .pre in ((p .0, p .1, omega (arith, p .2, c .before .before .before .before .before .before .before .before .fits .total)), tt)
+pool-cells-requires c κs =
+    let s = start c in
+    let p = s .pre in
+    ((p .0, p .1, omega (arith, p .2, s .fits .total)), tt)
 
 same-length : tie.Need-same-length
 same-length c = search needs
@@ -19,10 +46,21 @@ same-length-2 : tie.Need-same-length-2
 same-length-2 c = search needs
 
 returns : tie.Need-returns
-returns c = let a = c .before .before .before .before .before .before .before .before .before .before .before .before .before .before .args in pool-no-space (entriesOf (a .left-zuniqs .now) (a .left-counts .now)) (entriesOf (a .right-zuniqs .now) (a .right-counts .now)) (a .depth-threshold) (a .chi2-threshold) (a .zuniqs .now) (a .counts .now) _ _ _ (c .before .before .before .before .before .pool-cells .ensures) (c .if1 .taken)
+returns c =
+    let o = c .before .before .before .before .before in
+    let s = start (o .before) in
+    let a = s .args in
+    pool-no-space (left s) (right s) (a .depth-threshold) (a .chi2-threshold) (a .zuniqs .now) (a .counts .now) _ _ _ (o .pool-cells .ensures) (c .if1 .taken)
 
 pool-cells-requires-2 : tie.Need-pool-cells-requires-2
-pool-cells-requires-2 c κs = let p = c .before .before .before .before .before .before .before .before .before .before .before .before .before .before .before .before .pre in let e = c .before .before .before .before .before .before .before .pool-cells .ensures in ((p .0, p .1, omega (arith, p .2, c .before .before .before .before .before .before .before .before .before .before .before .before .before .before .before .before .fits .total)), (omega (arith, c .before .before .if1 .left, e .0), omega (arith, c .before .before .if1 .left, e .0, ap length (e .1), ap length (e .2), p .3)))
+pool-cells-requires-2 c κs =
+    let e = c .before .before in
+    let n = counted e .pool-cells .ensures in
+    let s = start (counted e .before) in
+    let p = s .pre in (
+      (p .0, p .1, omega (arith, p .2, s .fits .total)),
+      (omega (arith, e .if1 .left, n .0), omega (arith, e .if1 .left, n .0, ap length (n .1), ap length (n .2), p .3)),
+    )
 
 mul-clear-zuniqs : tie.Need-mul-clear-zuniqs
 mul-clear-zuniqs c = search needs
@@ -61,7 +99,19 @@ same-length-4 : tie.Need-same-length-4
 same-length-4 c = search needs
 
 returns-2 : tie.Need-returns-2
-returns-2 c = let a = c .before .before .before .before .before .before .before .before .before .before .before .before .before .before .before .before .before .before .before .before .before .before .before .before .before .before .before .before .before .args in let p = c .before .before .before .before .before .before .before .before .before .before .before .before .before .before .before .before .before .before .before .before .before .before .before .before .before .before .before .before .before .pre in let w = c .before .before .before .before .before .before .before .before .before .before .before .before .pool-cells2 .ensures in pool-made (entriesOf (a .left-zuniqs .now) (a .left-counts .now)) (entriesOf (a .right-zuniqs .now) (a .right-counts .now)) (a .depth-threshold) (a .chi2-threshold) (a .zuniqs .now) (a .counts .now) _ _ _ (p .0 .rises) (p .1 .rises) (c .before .before .before .before .before .before .before .before .before .before .before .before .before .before .before .before .before .before .before .before .pool-cells .ensures) (c .before .before .before .before .before .before .before .before .before .before .before .before .before .before .before .if1 .left) _ _ _ _ _ _ w (c .before .before .before .before .before .before .before .before .before .before .before .before .pool-cells2 .kept .1 .1 .1 .1 .1 .0) (c .before .before .before .before .before .before .before .before .before .before .before .before .pool-cells2 .kept .1 .1 .1 .1 .1 .1 .0) (cleared (c .before .before .before .before .before .before .before .before .before .before .before .before .pool-cells2 .result) (c .before .before .before .before .before .before .before .before .before .before .before .before .pool-cells2 .last .1 .1 .1 .1 .1 .0) _ 0 (w .stands .zuniqs) (c .before .before .before .before .before .before .clear-zuniqs .ensures)) (cleared (c .before .before .before .before .before .before .before .before .before .before .before .before .pool-cells2 .result) (c .before .before .before .before .before .before .before .before .before .before .before .before .pool-cells2 .last .1 .1 .1 .1 .1 .1 .0) _ 0 (w .stands .values) (c .before .before .clear-counts .ensures)) (p .2)
+returns-2 c =
+    let e = space (made c) in
+    let o = counted e in
+    let s = start (o .before) in
+    let a = s .args in
+    let p = s .pre in
+    let m = made c .pool-cells2 in
+    let w = m .ensures in
+    pool-made (left s) (right s) (a .depth-threshold) (a .chi2-threshold) (a .zuniqs .now) (a .counts .now) _ _ _
+    (p .0 .rises) (p .1 .rises) (o .pool-cells .ensures) (e .if1 .left) _ _ _ _ _ _ w
+    (m .kept .1 .1 .1 .1 .1 .0) (m .kept .1 .1 .1 .1 .1 .1 .0)
+    (cleared (m .result) (m .last .1 .1 .1 .1 .1 .0) _ 0 (w .stands .zuniqs) (c .before .before .before .before .before .before .clear-zuniqs .ensures))
+    (cleared (m .result) (m .last .1 .1 .1 .1 .1 .1 .0) _ 0 (w .stands .values) (c .before .before .clear-counts .ensures)) (p .2)
 
 pub pool-checked-spec : {M : Type 1} → statement M
 pool-checked-spec =

@@ -6,6 +6,26 @@ use borrow.Author.Needs.{needs}
 use Rattle.pool.proofs.walk.meet.Statement.{statement}
 use Rattle.pool.proofs.walk.meet.Tie as tie
 
+-- ---- points on the way
+-- a is no deeper than b, and compared with the ancestor of b
+abbrev shallow : tie.After-struct-known6 → tie.Then1
+shallow c = c .before .before .before .before
+
+abbrev start : tie.After-struct-known6 → tie.Start
+start c = shallow c .before .before .before
+
+-- the two are compared the other way round
+abbrev around : tie.After-struct-known9 → tie.After-struct-known6
+around c = c .before .before .before .before .before
+
+-- a is deeper than b, and its ancestor compared with b
+abbrev deep : tie.After-struct-known13 → tie.Else1
+deep c = c .before .before .before .before
+
+abbrev start′ : tie.After-struct-known13 → tie.Start
+start′ c = deep c .before .before .before
+
+-- ---- the answers
 mul-ancestor : tie.Need-mul-ancestor
 mul-ancestor c = search needs
 
@@ -16,16 +36,32 @@ shr-ancestor : tie.Need-shr-ancestor
 shr-ancestor c = search needs
 
 returns : tie.Need-returns
-returns c = left-before asEntry 29 (c .before .before .before .before .before .before .before .before .args .a) (c .before .before .before .before .before .before .before .before .args .b) (c .before .before .before .before .before .if1 .taken) (c .before .before .before .before .before .before .before .before .pre .1) (c .if2 .taken)
+returns c =
+    let o = c .before in
+    let s = start o in
+    left-before asEntry 29 (s .args .a) (s .args .b) (shallow o .if1 .taken) (s .pre .1) (c .if2 .taken)
 
 returns-2 : tie.Need-returns-2
-returns-2 c = right-before asEntry 29 (c .before .before .before .before .before .before .before .before .before .before .args .a) (c .before .before .before .before .before .before .before .before .before .before .args .b) (c .before .before .before .before .before .before .before .if1 .taken) (c .before .before .before .before .before .before .before .before .before .before .pre .1) (c .if3 .taken)
+returns-2 c =
+    let o = c .before .before .before in
+    let s = start o in
+    right-before asEntry 29 (s .args .a) (s .args .b) (shallow o .if1 .taken) (s .pre .1) (c .if3 .taken)
 
 returns-3 : tie.Need-returns-3
-returns-3 c = let x = c .before .before .before .before .before .if2 .left in let y = c .before .before .before .if3 .left in left-around asEntry 29 (c .before .before .before .before .before .before .before .before .before .before .before .before .before .args .a) (c .before .before .before .before .before .before .before .before .before .before .before .before .before .args .b) (c .before .before .before .before .before .before .before .before .before .before .if1 .taken) (c .before .before .before .before .before .before .before .before .before .before .before .before .before .pre .1) (c .if4 .taken) (omega arith)
+returns-3 c =
+    let o = around (c .before) in
+    let s = start o in
+    let x = c .before .before .before .before .before .if2 .left in
+    let y = c .before .before .before .if3 .left in
+    left-around asEntry 29 (s .args .a) (s .args .b) (shallow o .if1 .taken) (s .pre .1) (c .if4 .taken) (omega arith)
 
 returns-4 : tie.Need-returns-4
-returns-4 c = let x = c .before .before .before .before .before .if2 .left in let y = c .before .before .before .if3 .left in same-cell asEntry 29 (c .before .before .before .before .before .before .before .before .before .before .before .before .before .args .a) (c .before .before .before .before .before .before .before .before .before .before .before .before .before .args .b) (c .before .before .before .before .before .before .before .before .before .before .if1 .taken) (c .before .before .before .before .before .before .before .before .before .before .before .before .before .pre .1) (c .if4 .left) (omega arith)
+returns-4 c =
+    let o = around (c .before) in
+    let s = start o in
+    let x = c .before .before .before .before .before .if2 .left in
+    let y = c .before .before .before .if3 .left in
+    same-cell asEntry 29 (s .args .a) (s .args .b) (shallow o .if1 .taken) (s .pre .1) (c .if4 .left) (omega arith)
 
 sub-ancestor : tie.Need-sub-ancestor
 sub-ancestor c = search needs
@@ -40,13 +76,24 @@ shr-ancestor-2 : tie.Need-shr-ancestor-2
 shr-ancestor-2 c = search needs
 
 returns-5 : tie.Need-returns-5
-returns-5 c = left-before′ asEntry 29 (c .before .before .before .before .before .before .before .before .args .a) (c .before .before .before .before .before .before .before .before .args .b) (c .before .before .before .before .before .if1 .left) (c .before .before .before .before .before .before .before .before .pre .0) (c .if5 .taken)
+returns-5 c =
+    let o = c .before in
+    let s = start′ o in
+    left-before′ asEntry 29 (s .args .a) (s .args .b) (deep o .if1 .left) (s .pre .0) (c .if5 .taken)
 
 returns-6 : tie.Need-returns-6
-returns-6 c = right-before′ asEntry 29 (c .before .before .before .before .before .before .before .before .before .before .args .a) (c .before .before .before .before .before .before .before .before .before .before .args .b) (c .before .before .before .before .before .before .before .if1 .left) (c .before .before .before .before .before .before .before .before .before .before .pre .0) (c .if6 .taken)
+returns-6 c =
+    let o = c .before .before .before in
+    let s = start′ o in
+    right-before′ asEntry 29 (s .args .a) (s .args .b) (deep o .if1 .left) (s .pre .0) (c .if6 .taken)
 
 returns-7 : tie.Need-returns-7
-returns-7 c = let x = c .before .before .if5 .left in let y = c .if6 .left in right-around asEntry 29 (c .before .before .before .before .before .before .before .before .before .before .args .a) (c .before .before .before .before .before .before .before .before .before .before .args .b) (c .before .before .before .before .before .before .before .if1 .left) (c .before .before .before .before .before .before .before .before .before .before .pre .0) (omega arith)
+returns-7 c =
+    let o = c .before .before .before in
+    let s = start′ o in
+    let x = c .before .before .if5 .left in
+    let y = c .if6 .left in
+    right-around asEntry 29 (s .args .a) (s .args .b) (deep o .if1 .left) (s .pre .0) (omega arith)
 
 pub meet-spec : {M : Type 1} → statement M
 meet-spec =

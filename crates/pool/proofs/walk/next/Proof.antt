@@ -9,6 +9,10 @@ use borrow.Author.Needs.{needs}
 use Rattle.pool.proofs.walk.next.Statement.{statement}
 use Rattle.pool.proofs.walk.next.Tie as tie
 
+-- the start, from where the next entry has been looked at
+abbrev start : tie.After-head-at → tie.Start
+start c = c .before .before .before .before .before .before .before
+
 returns : tie.Need-returns
 returns c = stays (sym (Bool·not-not _) ∙ ap not (c .if1 .taken)) refl
 
@@ -28,13 +32,25 @@ enum-known-cell : tie.Need-enum-known-cell
 enum-known-cell c = search needs
 
 add-t14 : tie.Need-add-t14
-add-t14 c = let a = c .before .before .before .before .before .before .before .before .before .before .args in let k = entry-known asEntry zuniqIn 0 (a .zuniqs .now) (a .counts .now) _ _ _ (ap headOf (c .before .cell .given .1)) (c .before .before .before .head-at .ensures) in record { fits = omega (arith, k .0, c .before .before .before .before .before .before .before .before .before .before .good) }
+add-t14 c =
+    let h = c .before .before .before in
+    let s = start h in
+    let k = entry-known asEntry zuniqIn 0 (s .args .zuniqs .now) (s .args .counts .now) _ _ _ (ap headOf (c .before .cell .given .1)) (h .head-at .ensures) in
+    record { fits = omega (arith, k .0, s .good) }
 
 returns-3 : tie.Need-returns-3
-returns-3 c = let a = c .before .before .before .before .before .before .before .before .before .args in finishes (sym (Bool·not-not _) ∙ ap not (c .before .before .before .before .before .if1 .left)) (c .before .before .before .if2 .left) (entry-known asEntry zuniqIn 0 (a .zuniqs .now) (a .counts .now) _ _ _ (ap headOf (c .enum-told .given .1)) (c .before .before .head-at .ensures)) refl
+returns-3 c =
+    let h = c .before .before in
+    let s = start h in
+    let k = entry-known asEntry zuniqIn 0 (s .args .zuniqs .now) (s .args .counts .now) _ _ _ (ap headOf (c .enum-told .given .1)) (h .head-at .ensures) in
+    finishes (sym (Bool·not-not _) ∙ ap not (h .before .before .before .if1 .left)) (h .before .if2 .left) k refl
 
 returns-4 : tie.Need-returns-4
-returns-4 c = let a = c .before .before .before .before .before .before .before .before .before .before .args in fetches (sym (Bool·not-not _) ∙ ap not (c .before .before .before .before .before .before .if1 .left)) (c .before .before .before .before .if2 .left) _ (entry-known asEntry zuniqIn 0 (a .zuniqs .now) (a .counts .now) _ _ _ (ap headOf (c .before .cell .given .1)) (c .before .before .before .head-at .ensures)) refl
+returns-4 c =
+    let h = c .before .before .before in
+    let s = start h in
+    let k = entry-known asEntry zuniqIn 0 (s .args .zuniqs .now) (s .args .counts .now) _ _ _ (ap headOf (c .before .cell .given .1)) (h .head-at .ensures) in
+    fetches (sym (Bool·not-not _) ∙ ap not (h .before .before .before .if1 .left)) (h .before .if2 .left) _ k refl
 
 pub next-spec : {M : Type 1} → statement M
 next-spec =

@@ -155,19 +155,34 @@ pool-cells-spec =
     (λ c κs. fits (c .before .before .before .before) (seenLeft c) (shows-left c))
     (λ c κs. let s : ShownLeft = c .before .before .before in keeps (s .before .before .before .before) (seenLeft s) (shows-left s) _ (c .before .before .pool .ensures))
     (λ c. let s : ShownLeft = c .before .before .before .before .before .before .before .before in let w = ready (s .before .before .before .before) in shown-less w (sawOf (seenLeft s)) (shows-left s) refl (right-stays w))
-    (λ c. let s : ShownLeft = c .before .before .before .before .before .before .before .before in let w = ready (s .before .before .before .before) in let p = c .before .before .before .before .before .before .before .pool in let k = c .before .before .before .before .keep in shown-kept w (seenLeft s) (shows-left s) (p .result) (p .ensures .0) (k .ensures) (k .kept .1 .1 .0) (k .kept .1 .1 .1 .0) refl (right-stays w))
+    (λ c.
+    let s : ShownLeft = c .before .before .before .before .before .before .before .before in
+    let w = ready (s .before .before .before .before) in
+    let p = c .before .before .before .before .before .before .before .pool in
+    let k = c .before .before .before .before .keep in
+    shown-kept w (seenLeft s) (shows-left s) (p .result) (p .ensures .0) (k .ensures) (k .kept .1 .1 .0) (k .kept .1 .1 .1 .0) refl (right-stays w))
     -- the right one
     (λ c. search needs)
     (λ c κs. fits (c .before .before .before .before) (seenRight c) (shows-right c))
     (λ c κs. let s : ShownRight = c .before .before .before in keeps (s .before .before .before .before) (seenRight s) (shows-right s) _ (c .before .before .pool2 .ensures))
     (λ c. let s : ShownRight = c .before .before .before .before .before .before .before .before in let w = ready (s .before .before .before .before) in shown-less w (sawOf (seenRight s)) (shows-right s) (left-stays w) refl)
-    (λ c. let s : ShownRight = c .before .before .before .before .before .before .before .before in let w = ready (s .before .before .before .before) in let p = c .before .before .before .before .before .before .before .pool2 in let k = c .before .before .before .before .keep2 in shown-kept w (seenRight s) (shows-right s) (p .result) (p .ensures .0) (k .ensures) (k .kept .1 .1 .0) (k .kept .1 .1 .1 .0) (left-stays w) refl)
+    (λ c.
+    let s : ShownRight = c .before .before .before .before .before .before .before .before in
+    let w = ready (s .before .before .before .before) in
+    let p = c .before .before .before .before .before .before .before .pool2 in
+    let k = c .before .before .before .before .keep2 in
+    shown-kept w (seenRight s) (shows-right s) (p .result) (p .ensures .0) (k .ensures) (k .kept .1 .1 .0) (k .kept .1 .1 .1 .0) (left-stays w) refl)
     -- both
     (λ c. search needs)
     (λ c κs. fits (c .before .before .before .before) (seenBoth c) (shows-both c))
     (λ c κs. let s : ShownBoth = c .before .before .before in keeps (s .before .before .before .before) (seenBoth s) (shows-both s) _ (c .before .before .pool3 .ensures))
     (λ c. let s : ShownBoth = c .before .before .before .before .before .before .before .before in let w = ready (s .before .before .before .before) in shown-less w (sawOf (seenBoth s)) (shows-both s) refl refl)
-    (λ c. let s : ShownBoth = c .before .before .before .before .before .before .before .before in let w = ready (s .before .before .before .before) in let p = c .before .before .before .before .before .before .before .pool3 in let k = c .before .before .before .before .keep3 in shown-kept w (seenBoth s) (shows-both s) (p .result) (p .ensures .0) (k .ensures) (k .kept .1 .1 .0) (k .kept .1 .1 .1 .0) refl refl)
+    (λ c.
+    let s : ShownBoth = c .before .before .before .before .before .before .before .before in
+    let w = ready (s .before .before .before .before) in
+    let p = c .before .before .before .before .before .before .before .pool3 in
+    let k = c .before .before .before .before .keep3 in
+    shown-kept w (seenBoth s) (shows-both s) (p .result) (p .ensures .0) (k .ensures) (k .kept .1 .1 .0) (k .kept .1 .1 .1 .0) refl refl)
     -- the left head is split
     (λ c. search needs)
     (λ c κs. let o = opening-left c in (o .good, o .deep, omega arith))
