@@ -1,6 +1,8 @@
 -- `check` meets its contract: each check is one row of the table. Assumes nothing.
-use mathlib.Core.Path.{refl}
+use mathlib.Core.Path.{_≡_, refl}
+use mathlib.Core.Option.{Option}
 use lib.ListN.{length}
+use Rattle.refusal.specs.declared.Refusal.{Refusal}
 use Rattle.mom.specs.Map.{firstFault}
 use Rattle.build.specs.Map.{orElse}
 use Rattle.build.specs.Add.{mapRefusal}
@@ -10,6 +12,36 @@ use borrow.Author.Needs.{needs}
 use Rattle.product.proofs.check.Statement.{statement}
 use Rattle.product.proofs.check.Tie as tie
 
+-- ---- points on the way, and what is known there
+abbrev start : tie.After-check-settings → tie.Start
+start c = c .before .before .before .before .before
+
+abbrev settings : tie.Start → Option Refusal
+settings s = let a = s .args in settingsRefusal (a .left-depth) (a .right-depth) (a .depth-threshold) (a .chi2-threshold)
+
+abbrev pairs : tie.Start → Option Refusal
+pairs s =
+    let a = s .args in
+    pairsRefusal (length (a .left-zuniqs .now)) (length (a .left-densities .now)) (length (a .right-zuniqs .now)) (length (a .right-densities .now)) (a .places) (a .values)
+
+abbrev maps : tie.Start → Option Refusal
+maps s =
+    let a = s .args in
+    orElse (mapRefusal (firstFault 29 (a .left-depth) (a .left-zuniqs .now))) (mapRefusal (firstFault 29 (a .right-depth) (a .right-zuniqs .now)))
+
+settings-pass : (c : tie.After-enum-told) (o : Option Refusal) → orElse (settings (start (c .before .before))) o ≡ o
+settings-pass c o = let s = c .before .before in passes (settings (start s)) o (s .check-settings .ensures) (c .enum-told .given .1)
+
+factor-pass : (c : tie.After-enum-told2) (o : Option Refusal) → orElse (factorRefusal (start (c .before .before .before .before .before) .args .k)) o ≡ o
+factor-pass c o = let k = c .before .before in passes (factorRefusal (start (k .before .before .before) .args .k)) o (k .check-factor .ensures) (c .enum-told2 .given .1)
+
+pairs-pass : (c : tie.After-enum-told3) (o : Option Refusal) → orElse (pairs (start (c .before .before .before .before .before .before .before .before))) o ≡ o
+pairs-pass c o = let p = c .before .before in passes (pairs (start (p .before .before .before .before .before .before))) o (p .check-pairs .ensures) (c .enum-told3 .given .1)
+
+maps-pass : (c : tie.After-enum-told4) (o : Option Refusal) → orElse (maps (start (c .before .before .before .before .before .before .before .before .before .before .before))) o ≡ o
+maps-pass c o = let m = c .before .before in passes (maps (start (m .before .before .before .before .before .before .before .before .before))) o (m .check-maps .ensures) (c .enum-told4 .given .1)
+
+-- ---- the answers
 check-settings-requires : tie.Need-check-settings-requires
 check-settings-requires c κs = search needs
 
@@ -18,7 +50,9 @@ enum-known-refusal c = search needs
 
 returns : tie.Need-returns
 unfolding productInputRefusal mapsRefusal mapDensitiesRefusal
-returns c = let a = c .before .before .before .before .before .before .before .before .args in rw (refuses (settingsRefusal (a .left-depth) (a .right-depth) (a .depth-threshold) (a .chi2-threshold)) _ (c .before .before .before .check-settings .ensures) (c .before .refusal .given .1)) refl
+returns c =
+    let s = c .before .before .before in
+    rw (refuses (settings (start s)) _ (s .check-settings .ensures) (c .before .refusal .given .1)) refl
 
 enum-told : tie.Need-enum-told
 enum-told c = search needs
@@ -31,7 +65,9 @@ enum-known-refusal-2 c = search needs
 
 returns-2 : tie.Need-returns-2
 unfolding productInputRefusal mapsRefusal mapDensitiesRefusal
-returns-2 c = let a = c .before .before .before .before .before .before .before .before .before .before .before .args in rw (passes (settingsRefusal (a .left-depth) (a .right-depth) (a .depth-threshold) (a .chi2-threshold)) _ (c .before .before .before .before .before .before .check-settings .ensures) (c .before .before .before .before .enum-told .given .1), refuses (factorRefusal (a .k)) _ (c .before .before .before .check-factor .ensures) (c .before .refusal2 .given .1)) refl
+returns-2 c =
+    let k = c .before .before .before in
+    rw (settings-pass (k .before) _, refuses (factorRefusal (start (k .before .before .before) .args .k)) _ (k .check-factor .ensures) (c .before .refusal2 .given .1)) refl
 
 enum-told-2 : tie.Need-enum-told-2
 enum-told-2 c = search needs
@@ -44,7 +80,10 @@ enum-known-refusal-3 c = search needs
 
 returns-3 : tie.Need-returns-3
 unfolding productInputRefusal mapsRefusal mapDensitiesRefusal
-returns-3 c = let a = c .before .before .before .before .before .before .before .before .before .before .before .before .before .before .args in rw (passes (settingsRefusal (a .left-depth) (a .right-depth) (a .depth-threshold) (a .chi2-threshold)) _ (c .before .before .before .before .before .before .before .before .before .check-settings .ensures) (c .before .before .before .before .before .before .before .enum-told .given .1), passes (factorRefusal (a .k)) _ (c .before .before .before .before .before .before .check-factor .ensures) (c .before .before .before .before .enum-told2 .given .1), refuses (pairsRefusal (length (a .left-zuniqs .now)) (length (a .left-densities .now)) (length (a .right-zuniqs .now)) (length (a .right-densities .now)) (a .places) (a .values)) _ (c .before .before .before .check-pairs .ensures) (c .before .refusal3 .given .1)) refl
+returns-3 c =
+    let p = c .before .before .before in
+    let k = p .before .before .before in
+    rw (settings-pass (k .before) _, factor-pass (p .before) _, refuses (pairs (start (k .before .before .before))) _ (p .check-pairs .ensures) (c .before .refusal3 .given .1)) refl
 
 enum-told-3 : tie.Need-enum-told-3
 enum-told-3 c = search needs
@@ -57,7 +96,11 @@ enum-known-refusal-4 c = search needs
 
 returns-4 : tie.Need-returns-4
 unfolding productInputRefusal mapsRefusal mapDensitiesRefusal
-returns-4 c = let a = c .before .before .before .before .before .before .before .before .before .before .before .before .before .before .before .before .before .args in rw (passes (settingsRefusal (a .left-depth) (a .right-depth) (a .depth-threshold) (a .chi2-threshold)) _ (c .before .before .before .before .before .before .before .before .before .before .before .before .check-settings .ensures) (c .before .before .before .before .before .before .before .before .before .before .enum-told .given .1), passes (factorRefusal (a .k)) _ (c .before .before .before .before .before .before .before .before .before .check-factor .ensures) (c .before .before .before .before .before .before .before .enum-told2 .given .1), passes (pairsRefusal (length (a .left-zuniqs .now)) (length (a .left-densities .now)) (length (a .right-zuniqs .now)) (length (a .right-densities .now)) (a .places) (a .values)) _ (c .before .before .before .before .before .before .check-pairs .ensures) (c .before .before .before .before .enum-told3 .given .1), refuses (orElse (mapRefusal (firstFault 29 (a .left-depth) (a .left-zuniqs .now))) (mapRefusal (firstFault 29 (a .right-depth) (a .right-zuniqs .now)))) _ (c .before .before .before .check-maps .ensures) (c .before .refusal4 .given .1)) refl
+returns-4 c =
+    let m = c .before .before .before in
+    let p = m .before .before .before in
+    let k = p .before .before .before in
+    rw (settings-pass (k .before) _, factor-pass (p .before) _, pairs-pass (m .before) _, refuses (maps (start (k .before .before .before))) _ (m .check-maps .ensures) (c .before .refusal4 .given .1)) refl
 
 enum-told-4 : tie.Need-enum-told-4
 enum-told-4 c = search needs
@@ -67,7 +110,11 @@ check-both-requires c κs = search needs
 
 returns-5 : tie.Need-returns-5
 unfolding productInputRefusal mapsRefusal mapDensitiesRefusal
-returns-5 c = let a = c .before .before .before .before .before .before .before .before .before .before .before .before .before .before .before .before .before .args in rw (passes (settingsRefusal (a .left-depth) (a .right-depth) (a .depth-threshold) (a .chi2-threshold)) _ (c .before .before .before .before .before .before .before .before .before .before .before .before .check-settings .ensures) (c .before .before .before .before .before .before .before .before .before .before .enum-told .given .1), passes (factorRefusal (a .k)) _ (c .before .before .before .before .before .before .before .before .before .check-factor .ensures) (c .before .before .before .before .before .before .before .enum-told2 .given .1), passes (pairsRefusal (length (a .left-zuniqs .now)) (length (a .left-densities .now)) (length (a .right-zuniqs .now)) (length (a .right-densities .now)) (a .places) (a .values)) _ (c .before .before .before .before .before .before .check-pairs .ensures) (c .before .before .before .before .enum-told3 .given .1), passes (orElse (mapRefusal (firstFault 29 (a .left-depth) (a .left-zuniqs .now))) (mapRefusal (firstFault 29 (a .right-depth) (a .right-zuniqs .now)))) _ (c .before .before .before .check-maps .ensures) (c .before .enum-told4 .given .1)) (c .check-both .ensures)
+returns-5 c =
+    let t = c .before in
+    let m = t .before .before in
+    let p = m .before .before .before in
+    rw (settings-pass (p .before .before .before .before) _, factor-pass (p .before) _, pairs-pass (m .before) _, maps-pass t _) (c .check-both .ensures)
 
 pub check-spec : {M : Type 1} → statement M
 check-spec =

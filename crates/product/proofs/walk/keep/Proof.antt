@@ -44,7 +44,11 @@ same-length-2 : tie.Need-same-length-2
 same-length-2 c = search needs
 
 returns-4 : tie.Need-returns-4
-returns-4 c = rw (c .before .before .before .before .before .before .before .before .before .before .before .before .before .answer .given .1, c .before .before .before .before .before .before .before .before .pass .given .1) (one-not-finite _ _ (sym (c .before .before .before .before .before .before .before .before .before .before .before .not-finite .ensures) ∙ c .before .before .before .before .before .before .before .before .before .before .if1 .left), pushed-one _ _ _ _ _ _ _ _ (c .before .before .before .before .push .ensures))
+returns-4 c =
+    let p = c .before .before .before .before .before .before .before .before in
+    let e = p .before .before in
+    rw (e .before .before .before .answer .given .1, p .pass .given .1)
+    (one-not-finite _ _ (sym (e .before .not-finite .ensures) ∙ e .if1 .left), pushed-one _ _ _ _ _ _ _ _ (c .before .before .before .before .push .ensures))
 
 pub keep-spec : {M : Type 1} → statement M
 keep-spec =
