@@ -2,31 +2,29 @@
 // and prints how many answers are the same, for each kind of call and in all, and the number of the
 // first line that is different or unreadable.
 //
-// A line is a call, its arguments and what the original Rust answered: a word and decimal numbers,
-// parted by one space and ended by LF.
+// A line is a call as `calls` reads it, with its arguments, and behind them the numbers that the
+// original Rust answered; `calls` sets out both for each kind.
 //
-//     n_hash DEPTH N
-//     to_zuniq DEPTH HASH ZUNIQ
-//     from_zuniq ZUNIQ DEPTH HASH
-//     are_overlapping LEFT RIGHT 0|1
-//
-// Unreadable is a line with an unknown word or a foreign byte, with a number too few, too many or
-// too large for its field, or without LF. An input of 65,536 bytes or more is not replayed at all.
+// Unreadable is a line with an unknown word or a foreign byte, with an argument too few or too large
+// for its field, or without LF. An input of 131,072 bytes or more is not replayed at all.
 ghost use Prim.Native.Nat.{_≤_};
 ghost use lib.ListN.{length};
 
 mod compare;
-mod kind;
-mod line;
 mod tally;
 
-use kind::Named;
 use libc::STDIN_FILENO;
 use libc::STDOUT_FILENO;
+use lines::kind::Named;
+use lines::line::find;
+use lines::line::read;
 use tally::Tally;
 
+// The sample has some 100,000 bytes.
+const MAX_INPUT: usize = 131_072;
+
 fn main() {
-    let mut buffer = io::large_buffer();
+    let mut buffer = [0u8; MAX_INPUT];
     let length = io::read_full(STDIN_FILENO, &mut buffer);
     // A full buffer may hold no more than the start of the input.
     if length == buffer.len() {
@@ -44,7 +42,7 @@ fn replay(text: &[u8]) -> Tally {
     let mut at = 0;
     while at < text.len() {
         number += 1;
-        let end = line::find(text, at, b'\n');
+        let end = find(text, at, b'\n');
         tally = with_line(tally, number, text, at, end);
         at = end + 1;
     }
@@ -59,7 +57,7 @@ fn with_line(tally: Tally, number: u64, text: &[u8], at: usize, end: usize) -> T
     if end == text.len() {
         return tally.with_unreadable(number);
     }
-    let line = line::read(&text[at..end]);
+    let line = read(&text[at..end]);
     let named = line.named;
     let Named::Kind(kind) = named else {
         return tally.with_unreadable(number);

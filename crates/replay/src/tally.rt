@@ -1,10 +1,8 @@
 // How the lines fared, counted by kind, and printed.
 use crate::compare::Outcome;
-use crate::kind::KINDS;
-use crate::kind::Kind;
-use crate::kind::ROWS;
-use crate::kind::Row;
 use libc::STDOUT_FILENO;
+use lines::kind::KINDS;
+use lines::kind::Kind;
 
 pub struct Tally {
     // For each kind, at its place.
@@ -69,15 +67,14 @@ impl Tally {
 
     fn print_kinds(self) {
         for i in 0..KINDS {
-            self.print_kind(ROWS[i]);
+            self.print_kind(Kind::at(i));
         }
     }
 
     // n_hash 30 same, 0 different
-    fn print_kind(self, row: Row) {
-        let kind = row.kind;
+    fn print_kind(self, kind: Kind) {
         let place = kind.place();
-        row.print();
+        kind.print();
         io::write_all(STDOUT_FILENO, b" ");
         print_counts(self.same[place], self.different[place]);
         io::write_all(STDOUT_FILENO, b"\n");

@@ -1,0 +1,288 @@
+// Section 5: combining. The arguments are read in three steps: the left map, the right map, and the
+// rest with the output.
+use crate::building::counts_added;
+use crate::building::densities_added;
+use lines::answer::Answer;
+use lines::arguments::MAX_BYTE;
+use lines::arguments::MAX_COUNT;
+use lines::arguments::MAX_LONG;
+use lines::arguments::byte_of;
+use lines::arguments::counts_of;
+use lines::arguments::floats_of;
+use lines::arguments::list_at;
+use lines::floats::float_of;
+
+// M and T, and k of a product.
+struct Settings {
+    depth_threshold: u8,
+    chi2_threshold: f64,
+    k: f64,
+}
+
+pub(crate) fn pool(numbers: &[u64]) -> Answer {
+    if numbers.len() < 1 {
+        return Answer::unreadable();
+    }
+    let depth = numbers[0];
+    if depth > MAX_BYTE {
+        return Answer::unreadable();
+    }
+    let left = list_at(numbers, 1, MAX_LONG);
+    let left_counts = list_at(numbers, left.next, MAX_COUNT);
+    let zuniqs = left.items;
+    let len = left.len;
+    let values = counts_of(left_counts);
+    let counts = values.items;
+    let n = values.len;
+    pool_with(
+        byte_of(depth),
+        &zuniqs[..len],
+        &counts[..n],
+        numbers,
+        left_counts.next,
+    )
+}
+
+// The right map stands from `at` on.
+fn pool_with(
+    left_depth: u8,
+    left_zuniqs: &[u64],
+    left_counts: &[u32],
+    numbers: &[u64],
+    at: usize,
+) -> Answer {
+    if at >= numbers.len() {
+        return Answer::unreadable();
+    }
+    let depth = numbers[at];
+    if depth > MAX_BYTE {
+        return Answer::unreadable();
+    }
+    let right = list_at(numbers, at + 1, MAX_LONG);
+    let right_counts = list_at(numbers, right.next, MAX_COUNT);
+    let zuniqs = right.items;
+    let len = right.len;
+    let values = counts_of(right_counts);
+    let counts = values.items;
+    let n = values.len;
+    pool_into(
+        left_depth,
+        left_zuniqs,
+        left_counts,
+        byte_of(depth),
+        &zuniqs[..len],
+        &counts[..n],
+        numbers,
+        right_counts.next,
+    )
+}
+
+// M, T and the output stand from `at` on.
+fn pool_into(
+    left_depth: u8,
+    left_zuniqs: &[u64],
+    left_counts: &[u32],
+    right_depth: u8,
+    right_zuniqs: &[u64],
+    right_counts: &[u32],
+    numbers: &[u64],
+    at: usize,
+) -> Answer {
+    if at >= numbers.len() {
+        return Answer::unreadable();
+    }
+    if numbers.len() - at < 2 {
+        return Answer::unreadable();
+    }
+    let depth_threshold = numbers[at];
+    let chi2_threshold = numbers[at + 1];
+    let output = list_at(numbers, at + 2, MAX_LONG);
+    let output_counts = list_at(numbers, output.next, MAX_COUNT);
+    if depth_threshold > MAX_BYTE || output_counts.next > numbers.len() {
+        return Answer::unreadable();
+    }
+    let settings = Settings {
+        depth_threshold: byte_of(depth_threshold),
+        chi2_threshold: float_of(chi2_threshold),
+        k: 1.0,
+    };
+    let mut zuniqs = output.items;
+    let len = output.len;
+    let values = counts_of(output_counts);
+    let mut counts = values.items;
+    let n = values.len;
+    pooled(
+        left_depth,
+        left_zuniqs,
+        left_counts,
+        right_depth,
+        right_zuniqs,
+        right_counts,
+        settings,
+        &mut zuniqs[..len],
+        &mut counts[..n],
+        output_counts.next,
+    )
+}
+
+fn pooled(
+    left_depth: u8,
+    left_zuniqs: &[u64],
+    left_counts: &[u32],
+    right_depth: u8,
+    right_zuniqs: &[u64],
+    right_counts: &[u32],
+    settings: Settings,
+    zuniqs: &mut [u64],
+    counts: &mut [u32],
+    arguments: usize,
+) -> Answer {
+    let added = pool::pool(
+        left_depth,
+        left_zuniqs,
+        left_counts,
+        right_depth,
+        right_zuniqs,
+        right_counts,
+        settings.depth_threshold,
+        settings.chi2_threshold,
+        zuniqs,
+        counts,
+    );
+    counts_added(added, zuniqs, counts, arguments)
+}
+
+pub(crate) fn product(numbers: &[u64]) -> Answer {
+    if numbers.len() < 1 {
+        return Answer::unreadable();
+    }
+    let depth = numbers[0];
+    if depth > MAX_BYTE {
+        return Answer::unreadable();
+    }
+    let left = list_at(numbers, 1, MAX_LONG);
+    let left_densities = list_at(numbers, left.next, MAX_LONG);
+    let zuniqs = left.items;
+    let len = left.len;
+    let values = floats_of(left_densities);
+    let densities = values.items;
+    let n = values.len;
+    product_with(
+        byte_of(depth),
+        &zuniqs[..len],
+        &densities[..n],
+        numbers,
+        left_densities.next,
+    )
+}
+
+// The right map stands from `at` on.
+fn product_with(
+    left_depth: u8,
+    left_zuniqs: &[u64],
+    left_densities: &[f64],
+    numbers: &[u64],
+    at: usize,
+) -> Answer {
+    if at >= numbers.len() {
+        return Answer::unreadable();
+    }
+    let depth = numbers[at];
+    if depth > MAX_BYTE {
+        return Answer::unreadable();
+    }
+    let right = list_at(numbers, at + 1, MAX_LONG);
+    let right_densities = list_at(numbers, right.next, MAX_LONG);
+    let zuniqs = right.items;
+    let len = right.len;
+    let values = floats_of(right_densities);
+    let densities = values.items;
+    let n = values.len;
+    product_into(
+        left_depth,
+        left_zuniqs,
+        left_densities,
+        byte_of(depth),
+        &zuniqs[..len],
+        &densities[..n],
+        numbers,
+        right_densities.next,
+    )
+}
+
+// M, T, k and the output stand from `at` on.
+fn product_into(
+    left_depth: u8,
+    left_zuniqs: &[u64],
+    left_densities: &[f64],
+    right_depth: u8,
+    right_zuniqs: &[u64],
+    right_densities: &[f64],
+    numbers: &[u64],
+    at: usize,
+) -> Answer {
+    if at >= numbers.len() {
+        return Answer::unreadable();
+    }
+    if numbers.len() - at < 3 {
+        return Answer::unreadable();
+    }
+    let depth_threshold = numbers[at];
+    let chi2_threshold = numbers[at + 1];
+    let k = numbers[at + 2];
+    let output = list_at(numbers, at + 3, MAX_LONG);
+    let output_densities = list_at(numbers, output.next, MAX_LONG);
+    if depth_threshold > MAX_BYTE || output_densities.next > numbers.len() {
+        return Answer::unreadable();
+    }
+    let settings = Settings {
+        depth_threshold: byte_of(depth_threshold),
+        chi2_threshold: float_of(chi2_threshold),
+        k: float_of(k),
+    };
+    let mut zuniqs = output.items;
+    let len = output.len;
+    let values = floats_of(output_densities);
+    let mut densities = values.items;
+    let n = values.len;
+    multiplied(
+        left_depth,
+        left_zuniqs,
+        left_densities,
+        right_depth,
+        right_zuniqs,
+        right_densities,
+        settings,
+        &mut zuniqs[..len],
+        &mut densities[..n],
+        output_densities.next,
+    )
+}
+
+fn multiplied(
+    left_depth: u8,
+    left_zuniqs: &[u64],
+    left_densities: &[f64],
+    right_depth: u8,
+    right_zuniqs: &[u64],
+    right_densities: &[f64],
+    settings: Settings,
+    zuniqs: &mut [u64],
+    densities: &mut [f64],
+    arguments: usize,
+) -> Answer {
+    let added = product::product(
+        left_depth,
+        left_zuniqs,
+        left_densities,
+        right_depth,
+        right_zuniqs,
+        right_densities,
+        settings.depth_threshold,
+        settings.chi2_threshold,
+        settings.k,
+        zuniqs,
+        densities,
+    );
+    densities_added(added, zuniqs, densities, arguments)
+}

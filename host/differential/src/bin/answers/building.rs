@@ -1,0 +1,126 @@
+//! Section 4: building. The original takes all cells at once, so that a call that adds to a held map is
+//! given what the original builds from the cells before, and held to what it builds from all.
+
+use differential::{
+    cells::{n_hash, DEPTH_MAX},
+    floats::Float,
+    lists::Value,
+    random::{any_of, Random},
+};
+
+use crate::{Line, Number};
+
+const DRAWN: usize = 32;
+
+pub fn print(random: &mut Random) {
+    for _ in 0..DRAWN {
+        let list = List::<u32>::random(random);
+        list.line("add_counts", |line, values| {
+            let total: u32 = values.iter().sum();
+            line.with(total)
+        })
+        .print();
+    }
+    for _ in 0..DRAWN {
+        let list = List::<Float>::random(random);
+        list.line("add_densities", |line, _| line).print();
+    }
+}
+
+/// Cells of one depth, of which the first `cut` are held already.
+struct List<V> {
+    depth: u8,
+    m: u8,
+    t: Float,
+    cells: Vec<(u64, V)>,
+    cut: usize,
+}
+
+impl<V: Value + Number> List<V> {
+    /// Cells that follow each other but for a gap now and then, from a border of large cells on or up to
+    /// the last cell.
+    fn random(random: &mut Random) -> Self {
+        let depth = 1 + random.below(DEPTH_MAX as u64) as u8;
+        let n = n_hash(depth);
+        let len = any_of(random, &[4, 8, 16]);
+        let first = match random.coin() {
+            true => n - len,
+            false => random.below(n / 16) * 16,
+        };
+        let gap = random.below(4) == 0;
+        let hashes = (first..n.min(first + len)).filter(|_| !gap || random.below(8) > 0);
+        let hashes: Vec<u64> = hashes.collect();
+        let values = Self::values(random, depth, hashes.len());
+        let cut = match random.coin() {
+            true => 0,
+            false => random.below(hashes.len() as u64 + 1) as usize,
+        };
+        let m = match random.below(4) {
+            0 => random.below(depth as u64 + 1) as u8,
+            _ => 0,
+        };
+        List {
+            depth,
+            m,
+            t: Float(threshold(random, depth, &values)),
+            cells: hashes.into_iter().zip(values).collect(),
+            cut,
+        }
+    }
+
+    /// Values that exceed no limit together.
+    fn values(random: &mut Random, depth: u8, len: usize) -> Vec<V> {
+        loop {
+            let values = V::random(random, depth, len);
+            if V::overflow(&[], &values).is_none() {
+                return values;
+            }
+        }
+    }
+
+    fn line(&self, word: &'static str, total: impl Fn(Line, &[V]) -> Line) -> Line {
+        let (hashes, values): (Vec<u64>, Vec<V>) = self.cells.iter().copied().unzip();
+        let held = V::build(self.depth, self.m, self.t.0, &self.cells[..self.cut]);
+        let built = V::build(self.depth, self.m, self.t.0, &self.cells);
+        // One place more than are needed, and in the free ones what is no zuniq.
+        let places = held.len() + self.cells.len() - self.cut + 1;
+        let (zuniqs, held_values) = buffers(&held, places, 2, V::of_content(3));
+        let line = Line::new(word)
+            .with(self.depth)
+            .with(self.m)
+            .with(self.t)
+            .with(held.len())
+            .with_list(&zuniqs)
+            .with_list(&held_values)
+            .with_list(&hashes[self.cut..])
+            .with_list(&values[self.cut..]);
+        let (zuniqs, built_values) = buffers(&built, places, 0, V::ZERO);
+        total(line.with(built.len()), &values)
+            .with_list(&zuniqs)
+            .with_list(&built_values)
+    }
+}
+
+/// Entries in two buffers, with the same in every place behind them.
+pub fn buffers<V: Copy>(
+    entries: &[(u64, V)],
+    places: usize,
+    zuniq: u64,
+    value: V,
+) -> (Vec<u64>, Vec<V>) {
+    let free = std::iter::repeat((zuniq, value));
+    entries.iter().copied().chain(free).take(places).unzip()
+}
+
+/// T at chi of four of the values or just above it, usual, or above every chi.
+fn threshold<V: Value>(random: &mut Random, depth: u8, values: &[V]) -> f64 {
+    let four = values.first_chunk().map(|&four| V::chi2(four, depth - 1));
+    let chi = four.filter(|chi| !chi.is_nan()).unwrap_or(3.5);
+    match random.below(5) {
+        0 => chi,
+        1 => chi.next_up(),
+        2 => f64::INFINITY,
+        3 => 16.266,
+        _ => V::LEAST_CHI2 + random.below(20_000) as f64 / 1000.0,
+    }
+}

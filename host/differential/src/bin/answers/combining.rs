@@ -1,0 +1,108 @@
+//! Section 5: pools and products of small maps.
+
+use differential::{
+    cells::Cell,
+    floats::Float,
+    lists::Value,
+    pairs::{Combine, Given, Input},
+    random::Random,
+};
+use oracle::run;
+
+use crate::{building::buffers, Line, Number};
+
+const DRAWN: usize = 32;
+
+pub fn print(random: &mut Random) {
+    let with_total = |line: Line, entries: &[(u64, u32)]| {
+        let total: u32 = entries.iter().map(|&(_, count)| count).sum();
+        line.with(total)
+    };
+    for t in [2.0, 3.5] {
+        print_pair(&case((1, 1), [10, 3], t), with_total);
+    }
+    draw(random, with_total);
+    let alone = |line: Line, _: &[(u64, Float)]| line;
+    print_pair(&case((1, 2), [2.0, 3.0].map(Float), 0.0), alone);
+    draw(random, alone);
+}
+
+/// The scope's cases: a base cell and a cell in it.
+fn case<V: Combine>((depth, hash): (u8, u64), [left, right]: [V; 2], t: f64) -> Input<V> {
+    let map = |depth, hash, value| Given {
+        depth,
+        zuniqs: vec![run::to_zuniq(depth, hash)],
+        values: vec![value],
+    };
+    Input {
+        places: [0; 2],
+        left: map(0, 0, left),
+        right: map(depth, hash, right),
+        depth_threshold: 0,
+        chi2_threshold: Float(t),
+        factor: Float(1.0),
+        content: 0,
+    }
+}
+
+/// Prints the first pairs of maps drawn that no call of ours refuses and that a line has room for. All but
+/// one in eight have entries that overlap.
+fn draw<V: Combine + Number>(random: &mut Random, total: impl Fn(Line, &[(u64, V)]) -> Line + Copy) {
+    let mut printed = 0;
+    while printed < DRAWN {
+        let input = Input::<V>::random(random);
+        if input.left.zuniqs.len() + input.right.zuniqs.len() > 24 || input.refusal().is_some() {
+            continue;
+        }
+        if printed % 8 > 0 && !meet(&input) {
+            continue;
+        }
+        printed += usize::from(print_pair(&input, total));
+    }
+}
+
+fn meet<V: Combine>(input: &Input<V>) -> bool {
+    let (left, right) = (input.left.entries(), input.right.entries());
+    let overlaps = |l: &Cell| right.iter().any(|(r, _)| l.overlaps(*r));
+    left.iter().any(|(l, _)| overlaps(l))
+}
+
+/// Whether the pair was printed: a line has room for it.
+fn print_pair<V: Combine + Number>(
+    input: &Input<V>,
+    total: impl Fn(Line, &[(u64, V)]) -> Line,
+) -> bool {
+    let line = line(input, &V::original(input), total);
+    let is_short = line.is_short();
+    if is_short {
+        line.print();
+    }
+    is_short
+}
+
+fn line<V: Combine + Number>(
+    input: &Input<V>,
+    entries: &[(u64, V)],
+    total: impl Fn(Line, &[(u64, V)]) -> Line,
+) -> Line {
+    let places = input.kept().len() + 1;
+    let (zuniqs, values) = buffers(&[], places, 2, V::of_content(3));
+    let mut line = with_map(Line::new(V::CALL), &input.left);
+    line = with_map(line, &input.right)
+        .with(input.depth_threshold)
+        .with(input.chi2_threshold);
+    if V::CALL == "product" {
+        line = line.with(input.factor);
+    }
+    line = line.with_list(&zuniqs).with_list(&values);
+    let (zuniqs, values) = buffers(entries, places, 0, V::ZERO);
+    total(line.with(entries.len()), entries)
+        .with_list(&zuniqs)
+        .with_list(&values)
+}
+
+fn with_map<V: Value + Number>(line: Line, map: &Given<V>) -> Line {
+    line.with(map.depth)
+        .with_list(&map.zuniqs)
+        .with_list(&map.values)
+}

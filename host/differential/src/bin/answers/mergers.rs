@@ -1,0 +1,74 @@
+//! Section 2: the mergers. Where the four are kept the original hands them back and keeps its chi to
+//! itself, so that chi is found by the T from which on it merges; calls with a chi that no T finds, NaN
+//! or infinite, are left out.
+
+use differential::{
+    floats::Float,
+    quads::{Call, Quad},
+    random::Random,
+};
+use oracle::run;
+
+use crate::{Line, Number};
+
+/// The scope's cases, at T and M.
+const CASES: [([u32; 4], f64, u8); 8] = [
+    ([1, 2, 4, 4], 3.0, 0),
+    ([1, 2, 4, 4], 3.5, 0),
+    ([1, 2, 4, 4], 3.5, 1),
+    ([0, 0, 0, 5], 5.0, 0),
+    ([0, 0, 0, 5], 6.0, 0),
+    ([4, 4, 4, 4], 0.0, 0),
+    ([4, 4, 4, 4], 5e-324, 0),
+    ([0, 0, 0, 0], 3.5, 0),
+];
+
+const DRAWN: usize = 40;
+
+pub fn print(random: &mut Random) {
+    let cases = CASES.map(|(values, t, m)| Call {
+        quad: Quad {
+            values,
+            parent_depth: 0,
+        },
+        depth_threshold: m,
+        chi2_threshold: Float(t),
+    });
+    let drawn: Vec<Call<u32>> = (0..DRAWN).map(|_| Call::<u32>::random(random)).collect();
+    for call in cases.into_iter().chain(drawn) {
+        let Quad {
+            values,
+            parent_depth,
+        } = call.quad;
+        let (m, t) = (call.depth_threshold, call.chi2_threshold.0);
+        let merged = run::merge_counts(parent_depth, m, t, values);
+        let chi = || run::chi_of_counts(parent_depth, values);
+        print_call("chi2_count_merger", &call, merged, chi);
+    }
+    for _ in 0..DRAWN {
+        let call = Call::<Float>::random(random);
+        let (densities, p) = (call.quad.densities(), call.quad.parent_depth);
+        let (m, t) = (call.depth_threshold, call.chi2_threshold.0);
+        let merged = run::merge_densities(p, m, t, densities).map(Float);
+        let chi = || run::chi_of_densities(p, densities);
+        print_call("chi2_density_merger", &call, merged, chi);
+    }
+}
+
+fn print_call<V: Number>(
+    word: &'static str,
+    call: &Call<V>,
+    merged: Option<V>,
+    chi: impl Fn() -> Option<f64>,
+) {
+    let line = Line::new(word)
+        .with(call.quad.parent_depth)
+        .with(call.depth_threshold)
+        .with(call.chi2_threshold)
+        .with_all(&call.quad.values);
+    match (merged, chi()) {
+        (Some(value), _) => line.with(1u8).with(value).print(),
+        (None, Some(chi)) => line.with(0u8).with(Float(chi)).print(),
+        (None, None) => {}
+    }
+}
