@@ -42,7 +42,7 @@ use denote.Triple.Call.{calls-at}
 use denote.Triple.Entry.{Vals, onEntry}
 use denote.Triple.Spec.{Meets, tripleOf}
 use denote.Triple.Table.{entered, cited}
-use denote.Triple.Walked.{says, Stays, stay-none, stay-none-slice, walkOf, goes-none, goes-none-slice, Walks, ends-at, walked, walk-meets}
+use denote.Triple.Walked.{Stays, stay-none, stay-none-slice, walkOf, goes-none, goes-none-slice, Walks, ends-at, walked, walk-meets}
 use denote.Exit.{yes}
 use denote.Triple.Clauses.{ensured}
 use Rattle.mom.specs.declared.lookup.Overlapped.{Overlapped}
@@ -148,15 +148,15 @@ module _ {M : Type 1} (𝓤 : URA M) (H : Heap 𝓤) (A : Atoms 𝓤) (W : Given
   goes-answer r =
       qed W (‵ (Own r (mach r)) ∷ (‵ (flft κ q) ⊛ ‵ ftrue) ∷ []) ∵
       use1 W (given (mach r ∷ [] ≡ vstruct (spelledOf (D .parts) L (fieldsOf r)) ∷ []) (‵ (all-own (D .parts) L (fieldsOf r)))) (own-open 𝓤 H A W D L (fieldsOf r) (mach r)) $ learn ! (λ _.
-      move ! (1 ∷ 0 ∷ []) $ use2 W (raw (AnswerOf 𝓤 H A mem run .pre (to-answer r))) (asked r) $ frame ! $ done !)
+      move ! (1 ∷ 0 ∷ []) $ use2 W (raw (AnswerOf 𝓤 H A mem run .pre (to-answer r))) (asked r) $ done !)
 
   exits : (t : Answer) (u : Val) → ent 𝓤 (⋆ 𝓤 H A (‵ (R.the-row .own t (u ∷ [])) ∷ (‵ (flft κ q) ⊛ ‵ ftrue) ∷ ‵ SOwn ∷ [])) (Post u)
   exits t u =
       qed W (‵ (R.the-row .own t (u ∷ [])) ∷ (‵ (flft κ q) ⊛ ‵ ftrue) ∷ ‵ SOwn ∷ []) ∵
       suffices ! _ (ends-at 𝓤 H A overlapped.ended stayed (overlapped.clauses 𝓤 H A mem run) W (((κ, tt), (q, tt), tt, (s, (n, tt)), at), tt) u t (tt, (tt, tt)) (tt, (tt, tt))) $
-      move ! (1 ∷ []) $ frame ! $ move ! (1 ∷ []) $
-      -- [what s owns; the result]
-      nothing ! $ owned ! u64 (Is u64) (uint-makes 𝓤 H A W w64) n _ (refl, ok) $ fjoin ! $ move ! (1 ∷ 0 ∷ []) $ fjoin ! $ frame ! $ done !
+      move ! (2 ∷ []) $ nothing ! $ owned ! u64 (Is u64) (uint-makes 𝓤 H A W w64) n _ (refl, ok) $ fjoin ! $ move ! (1 ∷ 0 ∷ []) $ fjoin ! $
+      -- [what is had of the parameters; the result; the token]
+      join ! $ move ! (1 ∷ 0 ∷ []) $ join ! $ frame ! $ done !
 
   module _ (C : Calls 𝓤 H) (Λ : Loops 𝓤 H) (fm : FmC 𝓤 H (W .laws) C) (known-cells : Triple 𝓤 (C #get-cells) (GetCells 𝓤 H A mem run)) (known-answer : Triple 𝓤 (C #answer-of) (AnswerOf 𝓤 H A mem run)) where
     walk : Is (ShrSlice (named 0) κ u64) s (sv s ∷ []) → ent 𝓤 (onEntry 𝓤 H A overlapped.signature (κ, tt) (q, tt) (s, (n, tt)) at) (WpFn 𝓤 H C Λ code.function (sv s ∷ vint w64 n ∷ []) Post)
