@@ -6,7 +6,7 @@
 // original Rust answered; `calls` sets out both for each kind.
 //
 // Unreadable is a line with an unknown word or a foreign byte, with an argument too few or too large
-// for its field, or without LF. An input of 131,072 bytes or more is not replayed at all.
+// for its field, or without LF. An input of 262,144 bytes or more is not replayed at all.
 ghost use Prim.Native.Nat.{_≤_};
 ghost use lib.ListN.{length};
 
@@ -20,8 +20,8 @@ use lines::line::find;
 use lines::line::read;
 use tally::Tally;
 
-// The sample has some 100,000 bytes.
-const MAX_INPUT: usize = 131_072;
+// The sample has some 160,000 bytes.
+const MAX_INPUT: usize = 262_144;
 
 fn main() {
     let mut buffer = [0u8; MAX_INPUT];

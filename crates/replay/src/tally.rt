@@ -71,9 +71,12 @@ impl Tally {
         }
     }
 
-    // n_hash 30 same, 0 different
+    // n_hash 30 same, 0 different; nothing for a kind that has no lines.
     fn print_kind(self, kind: Kind) {
         let place = kind.place();
+        if self.same[place] == 0 && self.different[place] == 0 {
+            return;
+        }
         kind.print();
         io::write_all(STDOUT_FILENO, b" ");
         print_counts(self.same[place], self.different[place]);

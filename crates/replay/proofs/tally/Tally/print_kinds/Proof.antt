@@ -1,7 +1,7 @@
--- `Tally::print_kinds` is safe and ends: the rows left are the measure. Assumes nothing.
+-- `Tally::print_kinds` is safe and ends: the kinds left are the measure. Assumes nothing.
 use Prim.Native.Nat.{_-_}
+use Rattle.lines.specs.Kinds.{kinds}
 use borrow.Author.Needs.{needs}
-use Rattle.replay.specs.Kinds.{kinds}
 use Rattle.replay.proofs.tally.Tally.print_kinds.Statement.{statement}
 use Rattle.replay.proofs.tally.Tally.print_kinds.Tie as tie
 
@@ -14,11 +14,8 @@ abbrev μ-loop : tie.MeasureT-loop
 loop-holds : tie.Need-loop-holds Inv-loop μ-loop
 loop-holds c = search needs
 
-mul-print-kind : tie.Need-mul-print-kind Inv-loop μ-loop
-mul-print-kind c = search needs
-
-array-copy-out-print-kind : tie.Need-array-copy-out-print-kind Inv-loop μ-loop
-array-copy-out-print-kind c = search needs
+at-requires : tie.Need-at-requires Inv-loop μ-loop
+at-requires c κs = search needs
 
 print-kind-requires : tie.Need-print-kind-requires Inv-loop μ-loop
 print-kind-requires c κs = search needs
@@ -42,8 +39,7 @@ print-kinds-spec =
     Inv-loop
     μ-loop
     loop-holds
-    mul-print-kind
-    array-copy-out-print-kind
+    at-requires
     print-kind-requires
     add-i
     loop-less
