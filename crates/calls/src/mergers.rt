@@ -26,7 +26,7 @@ pub(crate) fn chi2_count_merger(numbers: &[u64]) -> Answer {
     if numbers[5] > MAX_COUNT || numbers[6] > MAX_COUNT {
         return Answer::unreadable();
     }
-    count_merge(merger_calls::chi2_count_merger(
+    count_merge(merger::chi2_count_merger(
         byte_of(p),
         byte_of(m),
         float_of(numbers[2]),
@@ -56,7 +56,7 @@ pub(crate) fn chi2_density_merger(numbers: &[u64]) -> Answer {
     if p > MAX_BYTE || m > MAX_BYTE {
         return Answer::unreadable();
     }
-    density_merge(merger_calls::chi2_density_merger(
+    density_merge(merger::chi2_density_merger(
         byte_of(p),
         byte_of(m),
         float_of(numbers[2]),

@@ -38,7 +38,7 @@ fn read_count_rows_into(
     counts: &mut [u32],
     arguments: usize,
 ) -> Answer {
-    match rows_read::read_count_rows(bytes, zuniqs, counts) {
+    match rows::read_count_rows(bytes, zuniqs, counts) {
         Rows::Rows(rows) => {
             let answer = Answer::values(arguments)
                 .with(rows as u64)
@@ -78,7 +78,7 @@ fn read_density_rows_into(
     patterns: &mut [u64],
     arguments: usize,
 ) -> Answer {
-    match rows_read::read_density_rows(bytes, zuniqs, patterns) {
+    match rows::read_density_rows(bytes, zuniqs, patterns) {
         Rows::Rows(rows) => {
             let answer = Answer::values(arguments)
                 .with(rows as u64)

@@ -38,7 +38,7 @@ fn write_count_rows_into(
     bytes: &mut [u8],
     arguments: usize,
 ) -> Answer {
-    let written = rows_write::write_count_rows(zuniqs, counts, bytes);
+    let written = rows::write_count_rows(zuniqs, counts, bytes);
     written_rows(written, bytes, arguments)
 }
 
@@ -71,7 +71,7 @@ fn write_density_rows_into(
     bytes: &mut [u8],
     arguments: usize,
 ) -> Answer {
-    let written = rows_write::write_density_rows(zuniqs, patterns, bytes);
+    let written = rows::write_density_rows(zuniqs, patterns, bytes);
     written_rows(written, bytes, arguments)
 }
 
