@@ -23,8 +23,9 @@
  *
  * What doesn't fit into the word goes through a pointer. A function says when it writes such a
  * number: by a refusal, and by MOM_NONE, it is left as it was. A slice is its pointer and then its
- * length in elements. No function keeps a pointer or has a state, so any number of threads may call.
- * A double is the 64-bit one of IEEE 754.
+ * length in elements. No function keeps a pointer or has a state, so any number of threads may call;
+ * none takes memory but the stack, where its own frames are less than 4 KiB. A double is the 64-bit
+ * one of IEEE 754.
  *
  * What a caller has to see to, since no function can look at it:
  *
@@ -121,7 +122,7 @@ uint64_t mom_density_of_pattern(uint64_t pattern, double *density);
 /* *pattern = the pattern of the density; MOM_NONE as above. Refuses nothing. */
 uint64_t mom_pattern_of_density(double density, uint64_t *pattern);
 
-/* The three functions below read the map's zuniqs into 32 KiB of the stack first.
+/* The three functions below read the rows where they stand, and copy none.
  *
  * Whether count rows are a valid map of that depth: MOM_ACCEPTED, or the first faulty row and the
  * first fault there of: not a zuniq, too deep, not above its predecessor, overlapping it.

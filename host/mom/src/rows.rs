@@ -5,9 +5,9 @@
 //! 64-bit pattern, [`f64::to_bits`], so that every pattern comes back, those of NaNs too;
 //! [`density_of_pattern`] says whether it is a density.
 //!
-//! The check and lookup take a map as count rows, at most [`MAX_ROWS`] of them. Each of these three
-//! calls reads the zuniqs into an array on the stack first, 32 KiB of it, however few rows there are:
-//! a thread that calls them wants a stack to match.
+//! The check and lookup take a map as count rows, at most [`MAX_ROWS`] of them. They read the rows
+//! where they stand and copy none. As with all functions of libmom_c.a their frames take less than
+//! 4 KiB of the stack, however many rows there are, and they take no other memory.
 //!
 //! ```
 //! use mom::rows;
