@@ -90,8 +90,8 @@ abbrev pub bytesOf : Input → ℕ
 bytesOf (Input.Read n) = n
 bytesOf (Input.Failed n) = n
 
--- What is written for an input of which so many bytes stand in the program's buffer. It is what the whole input asks for, whatever that is:
--- the bytes are its first ones, as many as the buffer has places, and so all of it where the buffer has a place left.
+-- What is written for an input of which so many bytes stand in the program's buffer: what the whole input asks for, whatever it is. The bytes
+-- are its first ones, as many as the buffer has places, and so all of it where a place is left.
 abbrev pub PrintedFor : Input → (buffer before after : List ℕ) → ℕ → Type 0
 PrintedFor (Input.Read n) buffer before after end =
     (whole : List ℕ) → take n buffer ≡ take (length buffer) whole → Written before 0 (mombuild whole) after end

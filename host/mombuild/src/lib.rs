@@ -36,6 +36,16 @@ pub fn printed(text: &[u8]) -> String {
     }
 }
 
+/// What the program should print where a read fails behind these bytes: the first line that could
+/// not be read whole. In place of what was not read stands a byte that no line may hold.
+pub fn printed_broken_off(text: &[u8]) -> String {
+    let line = match read(&[text, b"?"].concat()) {
+        Err(line) => line,
+        Ok(_) => unreachable!("a line that no LF ends is unreadable"),
+    };
+    format!("refused,0,{line}\n")
+}
+
 pub fn outcome(text: &[u8]) -> Outcome {
     match read(text) {
         Err(line) => Refused {

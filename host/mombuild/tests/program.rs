@@ -1,11 +1,13 @@
 //! The program beside the reading of the rules in `src/lib.rs`. Each test is named for what it
 //! rules out.
 
-use mombuild::{outcome, printed, Outcome};
+use mombuild::{outcome, printed, printed_broken_off, Outcome};
 use std::{
     collections::BTreeMap,
     env,
+    fs::File,
     io::{ErrorKind, Write},
+    os::fd::{FromRawFd, OwnedFd},
     path::PathBuf,
     process::{Command, Stdio},
     time::{Duration, Instant},
@@ -39,6 +41,50 @@ fn run(text: &[u8]) -> String {
     let output = child.wait_with_output().unwrap();
     assert!(output.status.success());
     String::from_utf8(output.stdout).unwrap()
+}
+
+extern "C" {
+    fn pipe2(ends: *mut i32, flags: i32) -> i32;
+}
+
+/// A pipe whose reads fail (EAGAIN) while it is empty and somebody may still write: the end to read
+/// from, and the one to write to.
+fn failing_pipe() -> (OwnedFd, File) {
+    const O_NONBLOCK: i32 = 0o4000;
+    const O_CLOEXEC: i32 = 0o2000000;
+    let mut ends = [-1; 2];
+    // SAFETY: pipe2 writes two numbers, and nobody else owns the ends that it opens.
+    unsafe {
+        assert_eq!(pipe2(ends.as_mut_ptr(), O_NONBLOCK | O_CLOEXEC), 0);
+        (OwnedFd::from_raw_fd(ends[0]), File::from_raw_fd(ends[1]))
+    }
+}
+
+fn run_on(input: impl Into<Stdio>) -> String {
+    let output = Command::new(program()).stdin(input).output().unwrap();
+    assert!(output.status.success());
+    String::from_utf8(output.stdout).unwrap()
+}
+
+/// What the program prints where a read fails behind `text`, of at most 65,536 bytes.
+fn run_broken_off(text: &[u8]) -> String {
+    let (input, mut feed) = failing_pipe();
+    feed.write_all(text).unwrap();
+    // `feed` is open until the program has ended, so that its last read fails.
+    run_on(input)
+}
+
+#[track_caller]
+fn assert_breaks_off(text: impl AsRef<[u8]>, line: usize) {
+    let text = text.as_ref();
+    let expected = format!("refused,0,{line}\n");
+    let shown = String::from_utf8_lossy(&text[..text.len().min(200)]);
+    assert_eq!(
+        printed_broken_off(text),
+        expected,
+        "the rules, of {shown:?}"
+    );
+    assert_eq!(run_broken_off(text), expected, "the program, of {shown:?}");
 }
 
 #[track_caller]
@@ -256,6 +302,61 @@ fn no_text_longer_than_the_buffer_has_another_first_unreadable_line() {
     assert_unreadable([0; 500_000], 1);
 }
 
+/// Each of these is printed as a map where the input ends behind it.
+#[test]
+fn no_failed_read_is_taken_for_the_end_of_the_text() {
+    for (text, line) in [
+        ("2,1,3500\n", 2),
+        ("2,1,3500\n0,1\n", 3),
+        ("2,1,3500\n0,1\n1,2\n2,4\n3,4\n5,0\n", 7),
+    ] {
+        assert!(printed(text.as_bytes()).contains("end,"));
+        assert_breaks_off(text, line);
+    }
+    assert_breaks_off(text("6,7,3500", rising(2047)), 2049);
+    assert_breaks_off(text("6,7,3500", rising(2048)), 2050);
+    // Nor is a refusal printed, since not all text was read.
+    assert_breaks_off("0,0,3500\n0,1\n", 3);
+    assert_breaks_off("1,0,3500\n7,1\n7,1\n", 4);
+}
+
+#[test]
+fn no_other_line_is_told_where_a_read_fails() {
+    assert_breaks_off("", 1);
+    assert_breaks_off("2", 1);
+    assert_breaks_off("2,1,3500", 1);
+    assert_breaks_off("2,1,3500\n0,1\n1,2", 3);
+    // An unreadable line before it comes first.
+    assert_breaks_off("\n", 1);
+    assert_breaks_off("2,1\n0,1\n", 1);
+    assert_breaks_off("2,1,3500\nx\n1,2\n", 2);
+    assert_breaks_off("2,1,3500\n0,1\n1,-2\n2,4\n3", 3);
+    assert_breaks_off(text("6,7,3500", rising(2048)) + "1", 2050);
+    assert_breaks_off(text("6,7,3500", rising(3000)), 2050);
+}
+
+#[test]
+fn no_directory_is_read_as_a_text() {
+    assert_eq!(run_on(File::open("/").unwrap()), "refused,0,1\n");
+}
+
+/// A text that comes in two pieces is read whole.
+#[test]
+fn no_pause_is_taken_for_the_end_of_the_text() {
+    let mut child = Command::new(program())
+        .stdin(Stdio::piped())
+        .stdout(Stdio::piped())
+        .spawn()
+        .unwrap();
+    let mut feed = child.stdin.take().unwrap();
+    feed.write_all(b"2,1,3500\n0,1\n1,").unwrap();
+    std::thread::sleep(Duration::from_millis(50));
+    feed.write_all(b"2\n2,4\n3,4\n5,0\n").unwrap();
+    drop(feed);
+    let output = child.wait_with_output().unwrap();
+    assert_eq!(output.stdout, b"1,0,11\n2,5,0\nend,2,11\n");
+}
+
 /// SplitMix64 (Steele, Lea and Flood 2014).
 struct Random(u64);
 
@@ -350,6 +451,24 @@ fn noise(random: &mut Random) -> Vec<u8> {
             digit => b'0' + (digit as u8 - 5) % 3,
         })
         .collect()
+}
+
+#[test]
+fn no_generated_text_breaks_off_otherwise() {
+    let mut random = Random(2);
+    for _ in 0..500 {
+        let mut text = nearly_valid(&mut random);
+        if random.one_in(2) {
+            text = spoilt(&mut random, text);
+        }
+        text.truncate(random.below(text.len().min(65_536) as u64 + 1) as usize);
+        let shown = String::from_utf8_lossy(&text);
+        assert_eq!(
+            run_broken_off(&text),
+            printed_broken_off(&text),
+            "{shown:?}"
+        );
+    }
 }
 
 /// Three thousand texts, and more for as long as MOMBUILD_SECONDS says.

@@ -1,6 +1,6 @@
 -- `read_input` meets its contract. The loop's invariant: no more bytes are read than the buffer has places. Assumes nothing.
-use mathlib.Core.Path.{_≡_, refl, sym, _∙_}
-use Prim.Native.Nat.{_-_, _≤_}
+use mathlib.Core.Path.{_≡_, sym, _∙_}
+use Prim.Native.Nat.{_+_, _-_, _≤_}
 use native.Mathlib.Omega.{arith}
 use lib.ListN.{length, take, drop, length-take, length-drop}
 use borrow.Author.Needs.{needs}
@@ -40,33 +40,35 @@ same-length : tie.Need-same-length Inv-loop μ-loop
 same-length c = search needs
 
 returns : tie.Need-returns Inv-loop μ-loop
-returns c = let got = rw (read-back (c .before .before .before .before .before .before .read .result) (c .before .before .before .before .before .before .read .ok)) at (c .before .before .before .step-of .ensures) in
-    omega (arith, done-bytes (c .before .before .before .before .before .before .read .result) (c .before .before .before .before .before .before .before .before .before .loop .n) (sym got ∙ c .before .input .given .1))
+returns c = let read = c .before .before .before .before .before .before .read in
+    let got = rw (read-back (read .result) (read .ok)) at (c .before .before .before .step-of .ensures) in
+    omega (arith, done-bytes (read .result) (c .before .before .before .before .before .before .before .before .before .loop .n) (sym got ∙ c .before .input .given .1))
 
 enum-known-bytes : tie.Need-enum-known-bytes Inv-loop μ-loop
 enum-known-bytes c = search needs
 
-add-n : tie.Need-add-n Inv-loop μ-loop
-add-n c = let got = rw (read-back (c .before .before .before .before .before .before .read .result) (c .before .before .before .before .before .before .read .ok)) at (c .before .before .before .step-of .ensures) in
+-- At least one byte more is read, and no more than there is room for.
+some-more : (c : tie.After-known-told2 Inv-loop μ-loop)
+    → (1 ≤ c .before .bytes .given .0 .0) × (c .before .before .before .before .before .before .before .before .before .loop .n + c .before .bytes .given .0 .0 ≤ length (c .before .before .before .before .before .before .before .before .before .loop .buffer))
+some-more c =
     let l = c .before .before .before .before .before .before .before .before .before .loop in
+    let read = c .before .before .before .before .before .before .read in
     let room = take (length (l .buffer) - l .n) (drop (l .n) (l .buffer)) in
-    let some = more-bytes (c .before .before .before .before .before .before .read .result) (l .n) (length room) (sym got ∙ c .before .bytes .given .1) (c .before .before .before .before .before .before .read .ensures) in
-    record { fits = omega (arith, length-take (length (l .buffer) - l .n) (drop (l .n) (l .buffer)), length-drop (l .n) (l .buffer)) }
+    let got = rw (read-back (read .result) (read .ok)) at (c .before .before .before .step-of .ensures) in
+    let some = more-bytes (read .result) (l .n) (length room) (sym got ∙ c .before .bytes .given .1) (read .ensures) in
+    (some .0, omega (arith, length-take (length (l .buffer) - l .n) (drop (l .n) (l .buffer)), length-drop (l .n) (l .buffer)))
+
+add-n : tie.Need-add-n Inv-loop μ-loop
+add-n c = record { fits = omega (arith, some-more c .1) }
 
 loop-less : tie.Need-loop-less Inv-loop μ-loop
-loop-less c = let got = rw (read-back (c .before .before .before .before .before .before .read .result) (c .before .before .before .before .before .before .read .ok)) at (c .before .before .before .step-of .ensures) in
-    let l = c .before .before .before .before .before .before .before .before .before .loop in
-    let room = take (length (l .buffer) - l .n) (drop (l .n) (l .buffer)) in
-    let some = more-bytes (c .before .before .before .before .before .before .read .result) (l .n) (length room) (sym got ∙ c .before .bytes .given .1) (c .before .before .before .before .before .before .read .ensures) in
-    omega (arith, length-take (length (l .buffer) - l .n) (drop (l .n) (l .buffer)), length-drop (l .n) (l .buffer), l .inv .1)
+loop-less c = omega (arith, some-more c .0, some-more c .1, c .before .before .before .before .before .before .before .before .before .loop .inv .1)
 
 loop-again : tie.Need-loop-again Inv-loop μ-loop
-loop-again c = let got = rw (read-back (c .before .before .before .before .before .before .read .result) (c .before .before .before .before .before .before .read .ok)) at (c .before .before .before .step-of .ensures) in
-    let l = c .before .before .before .before .before .before .before .before .before .loop in
-    let room = take (length (l .buffer) - l .n) (drop (l .n) (l .buffer)) in
-    let some = more-bytes (c .before .before .before .before .before .before .read .result) (l .n) (length room) (sym got ∙ c .before .bytes .given .1) (c .before .before .before .before .before .before .read .ensures) in
-    let same = same-len-mid (l .n) (length (l .buffer) - l .n) (l .buffer) (c .before .before .before .before .before .before .read .last .1 .0) (c .before .before .before .before .before .before .read .kept .1 .0) in
-    (omega (arith, same, length-take (length (l .buffer) - l .n) (drop (l .n) (l .buffer)), length-drop (l .n) (l .buffer)), same ∙ l .inv .1)
+loop-again c = let l = c .before .before .before .before .before .before .before .before .before .loop in
+    let read = c .before .before .before .before .before .before .read in
+    let same = same-len-mid (l .n) (length (l .buffer) - l .n) (l .buffer) (read .last .1 .0) (read .kept .1 .0) in
+    (omega (arith, same, some-more c .1), same ∙ l .inv .1)
 
 same-length-2 : tie.Need-same-length-2 Inv-loop μ-loop
 same-length-2 c = search needs
