@@ -43,8 +43,9 @@ pub fn get_cell_containing(depth: u8, zuniqs: &[u64], zuniq: u64) -> Containing
         }
     }
     if place > 0 {
-        if is_overlapped(query, zuniqs[place - 1]) {
-            return Containing::At(place - 1);
+        let left = place - 1;
+        if is_overlapped(query, zuniqs[left]) {
+            return Containing::At(left);
         }
     }
     Containing::Nothing

@@ -31,8 +31,8 @@ module _ (bytes : List ℕ) where
     rows-all l = rw (eq-eqb (length bytes % 12) 0 even, le-ltb 4096 (length bytes / 12) l) refl
 
   -- Every row has its zuniq.
-  pub in-rows : {row : ℕ} → row < length bytes / 12 → row < length (zuniqsOf bytes)
-  in-rows l = rw (all-zuniqs bytes) l
+  pub in-rows : (row : ℕ) → row < length bytes / 12 → row < length (zuniqsOf bytes)
+  in-rows row l = rw (all-zuniqs bytes) l
 
   -- ---- a depth over 29 comes before the rows
   module _ (D : ℕ) where

@@ -72,8 +72,9 @@ pub fn get_cell_containing(depth: u8, bytes: &[u8], zuniq: u64) -> Containing
         }
     }
     if place > 0 {
-        if is_overlapped(query, zuniq_at(bytes, place - 1)) {
-            return Containing::At(place - 1);
+        let left = place - 1;
+        if is_overlapped(query, zuniq_at(bytes, left)) {
+            return Containing::At(left);
         }
     }
     Containing::Nothing

@@ -48,8 +48,8 @@ returns-4 c =
     let range = has-range 29 _ _ (sym (query .before .before .range-of .ensures) ∙ query .query .given .1) in
     at-answer (query .before .before .before .if1 .left) range (omega (arith, at .before .if2 .left)) (omega (arith, c .before .before .before .if3 .taken)) (sym (c .before .is-overlapped .ensures) ∙ c .if4 .taken)
 
-sub-is-overlapped : tie.Need-sub-is-overlapped
-sub-is-overlapped c = search needs
+sub-left : tie.Need-sub-left
+sub-left c = search needs
 
 mul-is-overlapped-2 : tie.Need-mul-is-overlapped-2
 mul-is-overlapped-2 c = search needs
@@ -59,9 +59,6 @@ shared-slice-read-is-overlapped-2 c = search needs
 
 is-overlapped-requires-2 : tie.Need-is-overlapped-requires-2
 is-overlapped-requires-2 c κs = search needs
-
-sub-t21 : tie.Need-sub-t21
-sub-t21 c = search needs
 
 returns-5 : tie.Need-returns-5
 returns-5 c =
@@ -101,11 +98,10 @@ get-cell-containing-spec =
     shared-slice-read-is-overlapped
     is-overlapped-requires
     returns-4
-    sub-is-overlapped
+    sub-left
     mul-is-overlapped-2
     shared-slice-read-is-overlapped-2
     is-overlapped-requires-2
-    sub-t21
     returns-5
     returns-6
     returns-7)

@@ -38,7 +38,7 @@ returns : tie.Need-returns Inv-loop μ-loop
 returns c =
     let turn = c .before .before .before .before in
     let zuniq = c .before .before .before in
-    let within = in-rows (turn .before .before .before .args .bytes .now) (turn .loop-test .taken) in
+    let within = in-rows (turn .before .before .before .args .bytes .now) (turn .before .loop .row) (omega (arith, turn .loop-test .taken)) in
     sym (not-zuniq-here (turn .before .loop .inv) within (zuniq .zuniq-at .ensures) (sym (c .before .before .range-of .ensures) ∙ c .enum-told .given .1))
 
 returns-2 : tie.Need-returns-2 Inv-loop μ-loop
@@ -46,7 +46,7 @@ returns-2 c =
     let entry = c .before .before .before in
     let zuniq = entry .before .before .before in
     let turn = zuniq .before in
-    let within = in-rows (turn .before .before .before .args .bytes .now) (turn .loop-test .taken) in
+    let within = in-rows (turn .before .before .before .args .bytes .now) (turn .before .loop .row) (omega (arith, turn .loop-test .taken)) in
     let range = has-range 29 _ _ (sym (entry .before .before .range-of .ensures) ∙ entry .range .given .1) in
     sym (too-deep-here (turn .before .loop .inv) within (zuniq .zuniq-at .ensures) range (c .if1 .taken))
 
@@ -56,7 +56,7 @@ returns-3 c =
     let entry = deep .before .before .before in
     let zuniq = entry .before .before .before in
     let turn = zuniq .before in
-    let within = in-rows (turn .before .before .before .args .bytes .now) (turn .loop-test .taken) in
+    let within = in-rows (turn .before .before .before .args .bytes .now) (turn .before .loop .row) (omega (arith, turn .loop-test .taken)) in
     let range = has-range 29 _ _ (sym (entry .before .before .range-of .ensures) ∙ entry .range .given .1) in
     sym (not-above-here (turn .before .loop .inv) within (zuniq .zuniq-at .ensures) range (deep .if1 .left) (c .before .if2 .taken) (c .if3 .taken))
 
@@ -66,7 +66,7 @@ returns-4 c =
     let entry = deep .before .before .before in
     let zuniq = entry .before .before .before in
     let turn = zuniq .before in
-    let within = in-rows (turn .before .before .before .args .bytes .now) (turn .loop-test .taken) in
+    let within = in-rows (turn .before .before .before .args .bytes .now) (turn .before .loop .row) (omega (arith, turn .loop-test .taken)) in
     let range = has-range 29 _ _ (sym (entry .before .before .range-of .ensures) ∙ entry .range .given .1) in
     sym (overlapping-here (turn .before .loop .inv) within (zuniq .zuniq-at .ensures) range (deep .if1 .left) (c .before .if2 .taken) (c .if3 .left))
 
@@ -82,7 +82,7 @@ loop-again c =
     let entry = deep .before .before .before in
     let zuniq = entry .before .before .before in
     let turn = zuniq .before in
-    let within = in-rows (turn .before .before .before .args .bytes .now) (turn .loop-test .taken) in
+    let within = in-rows (turn .before .before .before .args .bytes .now) (turn .before .loop .row) (omega (arith, turn .loop-test .taken)) in
     let range = has-range 29 _ _ (sym (entry .before .before .range-of .ensures) ∙ entry .range .given .1) in
     passed-on (turn .before .loop .inv) within (zuniq .zuniq-at .ensures) range (deep .if1 .left) (c .if2 .left)
 

@@ -73,20 +73,17 @@ returns-5 c =
     let range = has-range 29 _ _ (sym (query .before .before .range-of .ensures) ∙ query .query .given .1) in
     let answer = containing-of-rows (a .bytes .now) (a .depth) deep (a .zuniq) _ _ (sym (rows .before .before .map-rows .ensures) ∙ rows .enum-told .given .1) in
     answer
-    (at-answer deep range (omega (arith, at .before .if2 .left)) (in-rows (a .bytes .now) (c .before .before .before .if3 .taken))
+    (at-answer deep range (omega (arith, at .before .if2 .left)) (in-rows (a .bytes .now) (at .lower-bound .result) (omega (arith, c .before .before .before .if3 .taken)))
     (rw (c .before .before .zuniq-at .ensures) at (sym (c .before .is-overlapped .ensures) ∙ c .if4 .taken)))
 
-sub-zuniq-at : tie.Need-sub-zuniq-at
-sub-zuniq-at c = search needs
+sub-left : tie.Need-sub-left
+sub-left c = search needs
 
 zuniq-at-requires-2 : tie.Need-zuniq-at-requires-2
 zuniq-at-requires-2 c κs = search needs
 
 is-overlapped-requires-2 : tie.Need-is-overlapped-requires-2
 is-overlapped-requires-2 c κs = search needs
-
-sub-t20 : tie.Need-sub-t20
-sub-t20 c = search needs
 
 returns-6 : tie.Need-returns-6
 returns-6 c =
@@ -148,10 +145,9 @@ get-cell-containing-spec =
     zuniq-at-requires
     is-overlapped-requires
     returns-5
-    sub-zuniq-at
+    sub-left
     zuniq-at-requires-2
     is-overlapped-requires-2
-    sub-t20
     returns-6
     returns-7
     returns-8)
