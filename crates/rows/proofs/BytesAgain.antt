@@ -1,12 +1,11 @@
 -- Read bytes, written again, are the same bytes. For a table of any columns. Assumes nothing.
 use mathlib.Core.Path.{_≡_, refl, ap, sym, _∙_}
 use mathlib.Core.List.{List, [], _∷_, _++_}
-use mathlib.Core.Logic.{_⊎_, inl, inr}
 use Prim.Native.Nat.{ℕ, zero, suc, _+_, _*_, _≤_, _<_}
-use native.Mathlib.Nat.{add-zero, add-assoc, suc-mul, zero-mul, le-trans, le-of-suc-le-suc, eq-or-lt-of-le, mul-le-mul-right, div-add-mod'}
+use native.Mathlib.Nat.{add-zero, add-assoc, suc-mul, zero-mul, le-trans, mul-le-mul-right, div-add-mod'}
 use native.Mathlib.Omega.{arith}
 use lib.ListN.{length, getD, take, drop, length-drop, List·getD-append}
-use lib.Seq.{take-at, take-all, take-add, length-take-le, drop-drop, getD-at, getD-take, getD-drop}
+use lib.Seq.{take-at, take-all, take-add, length-take-le, drop-drop, getD-take, getD-drop}
 use Rattle.rows.specs.declared.Rows.{Rows}
 use Rattle.rows.specs.LittleEndian.{toLeBytes, fromLeBytes}
 use Rattle.rows.specs.Rows.{Column, column, rowSize, rowBytes, rowsBytes, numberIn, numbersIn, filled, lengths, places, readRows, writeAs, writeRows}
