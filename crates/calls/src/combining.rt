@@ -1,5 +1,6 @@
 // Section 5: combining. The arguments are read in three steps: the left map, the right map, and the
 // rest with the output.
+ghost use Prim.Native.Nat.{_≤_};
 use crate::building::counts_added;
 use crate::building::densities_added;
 use lines::answer::Answer;
@@ -12,11 +13,38 @@ use lines::arguments::floats_of;
 use lines::arguments::list_at;
 use lines::floats::float_of;
 
-// M and T, and k of a product.
+// M, T and k, which a pool has no use for, and the place in the line behind them.
 struct Settings {
     depth_threshold: u8,
     chi2_threshold: f64,
     k: f64,
+    next: usize,
+}
+
+enum Read {
+    Settings(Settings),
+    Unreadable,
+}
+
+// M, T and, where there are three, k stand from `at` on.
+fn settings_at(numbers: &[u64], at: usize, len: usize) -> Read
+    requires { ⌜ 2 ≤ len ⌝ }
+{
+    if at >= numbers.len() {
+        return Read::Unreadable;
+    }
+    if numbers.len() - at < len {
+        return Read::Unreadable;
+    }
+    if numbers[at] > MAX_BYTE {
+        return Read::Unreadable;
+    }
+    Read::Settings(Settings {
+        depth_threshold: byte_of(numbers[at]),
+        chi2_threshold: float_of(numbers[at + 1]),
+        k: float_of(numbers[at + len - 1]),
+        next: at + len,
+    })
 }
 
 pub(crate) fn pool(numbers: &[u64]) -> Answer {
@@ -88,24 +116,14 @@ fn pool_into(
     numbers: &[u64],
     at: usize,
 ) -> Answer {
-    if at >= numbers.len() {
+    let Read::Settings(settings) = settings_at(numbers, at, 2) else {
         return Answer::unreadable();
-    }
-    if numbers.len() - at < 2 {
-        return Answer::unreadable();
-    }
-    let depth_threshold = numbers[at];
-    let chi2_threshold = numbers[at + 1];
-    let output = list_at(numbers, at + 2, MAX_LONG);
-    let output_counts = list_at(numbers, output.next, MAX_COUNT);
-    if depth_threshold > MAX_BYTE || output_counts.next > numbers.len() {
-        return Answer::unreadable();
-    }
-    let settings = Settings {
-        depth_threshold: byte_of(depth_threshold),
-        chi2_threshold: float_of(chi2_threshold),
-        k: 1.0,
     };
+    let output = list_at(numbers, settings.next, MAX_LONG);
+    let output_counts = list_at(numbers, output.next, MAX_COUNT);
+    if output_counts.next > numbers.len() {
+        return Answer::unreadable();
+    }
     let mut zuniqs = output.items;
     let len = output.len;
     let values = counts_of(output_counts);
@@ -221,25 +239,14 @@ fn product_into(
     numbers: &[u64],
     at: usize,
 ) -> Answer {
-    if at >= numbers.len() {
+    let Read::Settings(settings) = settings_at(numbers, at, 3) else {
         return Answer::unreadable();
-    }
-    if numbers.len() - at < 3 {
-        return Answer::unreadable();
-    }
-    let depth_threshold = numbers[at];
-    let chi2_threshold = numbers[at + 1];
-    let k = numbers[at + 2];
-    let output = list_at(numbers, at + 3, MAX_LONG);
-    let output_densities = list_at(numbers, output.next, MAX_LONG);
-    if depth_threshold > MAX_BYTE || output_densities.next > numbers.len() {
-        return Answer::unreadable();
-    }
-    let settings = Settings {
-        depth_threshold: byte_of(depth_threshold),
-        chi2_threshold: float_of(chi2_threshold),
-        k: float_of(k),
     };
+    let output = list_at(numbers, settings.next, MAX_LONG);
+    let output_densities = list_at(numbers, output.next, MAX_LONG);
+    if output_densities.next > numbers.len() {
+        return Answer::unreadable();
+    }
     let mut zuniqs = output.items;
     let len = output.len;
     let values = floats_of(output_densities);

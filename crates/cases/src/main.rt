@@ -22,6 +22,11 @@ use print::print_answer;
 fn main() {
     let mut buffer = io::large_buffer();
     let length = io::read_full(STDIN_FILENO, &mut buffer);
+    // A full buffer may hold no more than the start of the input.
+    if length == buffer.len() {
+        io::write_all(STDOUT_FILENO, b"the input is too long\n");
+        return;
+    }
     print_lines(&buffer[..length]);
 }
 

@@ -1,4 +1,5 @@
 // The arguments of a call: numbers of a line as what the call takes.
+ghost use Prim.Native.Nat.{_≤_};
 ghost use Rattle.io.specs.Counts.{Counts};
 ghost use Rattle.lines.specs.Lists.{CountsFloats};
 use crate::floats::float_of;
@@ -81,7 +82,6 @@ fn missing() -> Longs
 }
 
 pub fn counts_of(list: Longs) -> CountItems
-    requires { ⌜ Counts (list .len) (list .items) ⌝ }
     ensures { λ r. ⌜ Counts (r .len) (r .items) ⌝ }
 {
     let longs = list.items;
@@ -91,12 +91,11 @@ pub fn counts_of(list: Longs) -> CountItems
     }
     CountItems {
         items,
-        len: list.len,
+        len: within(list.len),
     }
 }
 
 pub fn bytes_of(list: Longs) -> ByteItems
-    requires { ⌜ Counts (list .len) (list .items) ⌝ }
     ensures { λ r. ⌜ Counts (r .len) (r .items) ⌝ }
 {
     let longs = list.items;
@@ -106,12 +105,11 @@ pub fn bytes_of(list: Longs) -> ByteItems
     }
     ByteItems {
         items,
-        len: list.len,
+        len: within(list.len),
     }
 }
 
 pub fn floats_of(list: Longs) -> FloatItems
-    requires { ⌜ Counts (list .len) (list .items) ⌝ }
     ensures { λ r. ⌜ CountsFloats (r .len) (r .items) ⌝ }
 {
     let longs = list.items;
@@ -121,8 +119,18 @@ pub fn floats_of(list: Longs) -> FloatItems
     }
     FloatItems {
         items,
-        len: list.len,
+        len: within(list.len),
     }
+}
+
+// A length that the items of a list can have.
+fn within(len: usize) -> usize
+    ensures { λ r. ⌜ r ≤ 48 ⌝ }
+{
+    if len > MOST_ITEMS {
+        return MOST_ITEMS;
+    }
+    len
 }
 
 // The count of a number that is none too large; of a larger one the largest.

@@ -1,6 +1,6 @@
 // A line of text that asks for a call: a word and decimal numbers, parted by one space. A number with a
 // point and one digit behind it, as 3.5, is an f64 and stands for its pattern.
-ghost use Prim.Native.Nat.{_≤_};
+ghost use Prim.Native.Nat.{_+_, _-_, _≤_};
 ghost use lib.ListN.{length};
 ghost use Rattle.io.specs.Counts.{Counts};
 ghost use Rattle.lines.specs.Reading.{NumberEnds};
@@ -35,8 +35,7 @@ enum Longer {
 
 // The first position from `at` on that holds `byte`, or the length where none does.
 pub fn find(s: &[u8], at: usize, byte: u8) -> usize
-    requires { ⌜ at ≤ length (now s) ⌝ }
-    ensures { λ r. ⌜ at ≤ r ⌝ }
+    ensures { λ r. ⌜ at ≤ r + (at - length (now (s .entry))) ⌝ }
     ensures { λ r. ⌜ Counts r (now (s .entry)) ⌝ }
 {
     for i in at..s.len() {

@@ -37,6 +37,9 @@ loop-less c = search needs
 loop-again : tie.Need-loop-again Inv-loop μ-loop
 loop-again c = (search needs, simp length-set (search needs))
 
+within-requires : tie.Need-within-requires Inv-loop μ-loop
+within-requires c κs = search needs
+
 returns : tie.Need-returns Inv-loop μ-loop
 returns c = counts _ _ (search needs)
 
@@ -54,4 +57,5 @@ bytes-of-spec =
     add-i
     loop-less
     loop-again
+    within-requires
     returns)

@@ -47,7 +47,10 @@ fn case<V: Combine>((depth, hash): (u8, u64), [left, right]: [V; 2], t: f64) -> 
 
 /// Prints the first pairs of maps drawn that no call of ours refuses and that a line has room for. All but
 /// one in eight have entries that overlap.
-fn draw<V: Combine + Number>(random: &mut Random, total: impl Fn(Line, &[(u64, V)]) -> Line + Copy) {
+fn draw<V: Combine + Number>(
+    random: &mut Random,
+    total: impl Fn(Line, &[(u64, V)]) -> Line + Copy,
+) {
     let mut printed = 0;
     while printed < DRAWN {
         let input = Input::<V>::random(random);
