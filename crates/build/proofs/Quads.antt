@@ -36,6 +36,15 @@ spaced K d h z g v o e =
     let is : z ≡ (2 * (4 * q + 3) + 1) * w = v .is ∙ ap (λ (n : ℕ). (2 * n + 1) * w) s in
     record { room = omega arith; third = omega arith; second = omega arith; first = omega arith }
 
+-- So that finding the four behind a fourth child takes three comparisons.
+pub quad-spaced : (K n d h g : ℕ) (zs : List ℕ) → h % 4 ≡ 3 → 4 ≤ n → Spaced K d h (getD zs (n - 1) 0) g
+    → quadAt K n zs d h
+    ≡ (eqb (getD zs (n - 2) 0) (getD zs (n - 1) 0 - g)
+    && (eqb (getD zs (n - 3) 0) (getD zs (n - 1) 0 - 2 * g)
+    && eqb (getD zs (n - 4) 0) (getD zs (n - 1) 0 - 3 * g)))
+unfolding quadAt
+quad-spaced K n d h g zs o p s = rw (eq-eqb (h % 4) 3 o, le-leb 4 n p, s .third, s .second, s .first) refl
+
 -- ---- the quad that a step merges
 reversed : (a b c d : Bool) → (a && (b && (c && d))) ≡ (d && (c && (b && a)))
 reversed a b c d = and-comm a (b && (c && d)) ∙ ap (λ (t : Bool). t && a) (and-comm b (c && d) ∙ ap (λ (t : Bool). t && b) (and-comm c d)) ∙ simp and-assoc

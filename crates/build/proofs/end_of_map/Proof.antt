@@ -1,18 +1,34 @@
 -- `end_of_map` meets its contract. Assumes nothing.
-use mathlib.Core.Path.{_≡_, refl, sym, _∙_, ap}
-use Prim.Native.Nat.{ℕ, _+_, _≤_, _<_}
+use mathlib.Core.Path.{sym, _∙_, ap}
 use native.Mathlib.Omega.{arith}
 use native.Mathlib.Nat.{mod-eq-of-lt}
+use Prim.Native.Nat.{_<_}
 use lib.ListN.{length}
 use Rattle.zuniq.specs.Cells.{nHash}
-use Rattle.build.specs.Add.{cellEnd}
-use Rattle.build.proofs.Ends.{n-hash-mono, map-end-last, map-end-none, last-ends}
+use Rattle.build.specs.Add.{mapEnd, cellEnd}
+use Rattle.build.proofs.Ends.{LastEnds, n-hash-mono, map-end-last, map-end-none, last-ends}
 use borrow.Author.Needs.{needs}
 use Rattle.build.proofs.end_of_map.Statement.{statement}
 use Rattle.build.proofs.end_of_map.Tie as tie
 
+-- ---- the last entry
+some-left : (c : tie.Else1) → 0 < length (c .before .before .args .zuniqs .now)
+some-left c = let left = c .if1 .left in omega (arith, left)
+
+abbrev start : tie.After-last → tie.Start
+start c = c .before .before .before .before .before .before
+
+ends : (c : tie.After-last) → let a = start c .args in
+    let last = c .last .given .0 .0 in
+    LastEnds (a .depth) (last .depth) (last .hash) (mapEnd 29 (a .depth) (a .zuniqs .now))
+ends c =
+    let a = start c .args in
+    let last = c .last .given .0 .0 in
+    last-ends 29 (a .depth) (a .zuniqs .now) (last .depth) (last .hash) (start c .pre .1) (some-left (c .before .before .before .before)) (sym (c .before .before .from-zuniq .ensures) ∙ c .last .given .1)
+
+-- ---- the answers
 returns : tie.Need-returns
-returns c = sym (map-end-none 29 (c .before .before .args .depth) (c .before .before .args .zuniqs .now) (c .if1 .taken))
+returns c = let a = c .before .before .args in sym (map-end-none 29 (a .depth) (a .zuniqs .now) (c .if1 .taken))
 
 sub-from-zuniq : tie.Need-sub-from-zuniq
 sub-from-zuniq c = search needs
@@ -34,14 +50,17 @@ enum-told c = search needs
 
 returns-2 : tie.Need-returns-2
 unfolding cellEnd
-returns-2 c = sym (map-end-last 29 (c .before .before .before .before .before .before .args .depth) (c .before .before .before .before .before .before .args .zuniqs .now) (let ne = c .before .before .before .before .if1 .left in omega (arith, ne)) ∙ ap (cellEnd (c .before .before .before .before .before .before .args .depth)) (sym (c .before .before .from-zuniq .ensures) ∙ c .enum-told .given .1))
+returns-2 c =
+    let some = c .before .before .before .before in
+    let a = some .before .before .args in
+    sym (map-end-last 29 (a .depth) (a .zuniqs .now) (some-left some) ∙ ap (cellEnd (a .depth)) (sym (c .before .before .from-zuniq .ensures) ∙ c .enum-told .given .1))
 
 add-result : tie.Need-add-result
 unfolding nHash
-add-result c = omega (arith, (last-ends 29 (c .before .before .before .before .before .before .before .before .args .depth) (c .before .before .before .before .before .before .before .before .args .zuniqs .now) (c .before .before .last .given .0 .0 .depth) (c .before .before .last .given .0 .0 .hash) (c .before .before .before .before .before .before .before .before .pre .1) (let ne = c .before .before .before .before .before .before .if1 .left in omega (arith, ne)) (sym (c .before .before .before .before .from-zuniq .ensures) ∙ c .before .before .last .given .1)) .small, n-hash-mono (c .before .before .before .before .before .before .before .before .args .depth) 29 (c .before .before .before .before .before .before .before .before .pre .0))
+add-result c = let l = c .before .before in omega (arith, ends l .small, n-hash-mono (start l .args .depth) 29 (start l .pre .0))
 
 sub-result : tie.Need-sub-result
-sub-result c = (last-ends 29 (c .before .before .before .before .before .before .before .before .before .args .depth) (c .before .before .before .before .before .before .before .before .before .args .zuniqs .now) (c .before .before .before .last .given .0 .0 .depth) (c .before .before .before .last .given .0 .0 .hash) (c .before .before .before .before .before .before .before .before .before .pre .1) (let ne = c .before .before .before .before .before .before .before .if1 .left in omega (arith, ne)) (sym (c .before .before .before .before .before .from-zuniq .ensures) ∙ c .before .before .before .last .given .1)) .shallow
+sub-result c = ends (c .before .before .before) .shallow
 
 mul-result : tie.Need-mul-result
 mul-result c = search needs
@@ -54,7 +73,9 @@ shl-result c = search needs
 
 returns-3 : tie.Need-returns-3
 unfolding nHash
-returns-3 c = let L = (last-ends 29 (c .before .before .before .before .before .before .before .before .before .args .depth) (c .before .before .before .before .before .before .before .before .before .args .zuniqs .now) (c .before .before .before .last .given .0 .0 .depth) (c .before .before .before .last .given .0 .0 .hash) (c .before .before .before .before .before .before .before .before .before .pre .1) (let ne = c .before .before .before .before .before .before .before .if1 .left in omega (arith, ne)) (sym (c .before .before .before .before .before .from-zuniq .ensures) ∙ c .before .before .before .last .given .1)) in rw (L .end-is) (mod-eq-of-lt (omega (arith, L .within, n-hash-mono (c .before .before .before .before .before .before .before .before .before .args .depth) 29 (c .before .before .before .before .before .before .before .before .before .pre .0))))
+returns-3 c =
+    let l = c .before .before .before in
+    rw (ends l .end-is) (mod-eq-of-lt (omega (arith, ends l .within, n-hash-mono (start l .args .depth) 29 (start l .pre .0))))
 
 pub end-of-map-spec : {M : Type 1} → statement M
 end-of-map-spec =
