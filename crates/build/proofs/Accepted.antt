@@ -19,14 +19,14 @@ use Rattle.build.specs.declared.counts.CountsAdded.{CountsAdded}
 use Rattle.build.specs.Map.{Entry, orElse}
 use Rattle.build.specs.Buffers.{batch, readOnto, held, filled, zuniqOf, valueOf, zuniqBuffer, valueBuffer}
 use Rattle.build.specs.Calls.{Buffers, Batch, Answer, Calls, cells, answered, addCall}
-use Rattle.build.specs.Standing.{Stands, Added}
+use Rattle.build.specs.Standing.{Stands, Rising, Added}
 use Rattle.build.specs.Add.{settingsRefusal, lengthsRefusal, mapRefusal, heldRefusal, mapEnd, cellsRefusal, sumOf, totalRefusal, spaceRefusal}
 use Rattle.build.specs.Counts.{totalOf, never, countsRefusal, Report, countCalls, countsAdded, addCounts}
 use Rattle.build.specs.Densities.{densityRefusal, densitiesRefusal}
 use Rattle.build.proofs.Adding.{run-total}
 use Rattle.build.proofs.Places.{fewer, held-suc, held-length, held-zuniqs, held-values}
 use Rattle.build.proofs.Filling.{sum-append}
-use Rattle.build.proofs.Checking.{or-else-none, grouped, settings-pass, lengths-pass, map-passes, space-passes, total-fits}
+use Rattle.build.proofs.Checking.{or-else-none, grouped, settings-pass, lengths-pass, map-passes, space-passes, total-fits, cells-pass}
 
 pub record Accepted {A : Type 0} (bad : A → Bool) (D m places values : ℕ) (zs hs : List ℕ) (xs : List A) : Type 0 where
   pub positive : 0 < D
@@ -104,6 +104,13 @@ valid-stands K D m zs vs p q v = record {
   values = q;
   valid = λ i l. rw (getD-take m zs i 0 l) at (v .valid i (omega (arith, length-take-le m zs p)));
 }
+
+-- What is accepted may be pushed: the map stands, there is room for the batch, and its cells rise.
+pub may-push : {A : Type 0} {bad : A → Bool} {D m : ℕ} {zs : List ℕ} {vs : List A} {hs : List ℕ} {xs : List A} → Accepted bad D m (length zs) (length vs) (take m zs) hs xs
+    → (Stands 29 m zs vs × (0 < D) × (D ≤ 29) × (length hs ≡ length xs) × (m + length hs ≤ length zs) × (m + length hs ≤ length vs)) × Rising D hs
+may-push {A} {bad} {D} {m} {zs} {vs} {hs} {xs} a =
+    let stands = valid-stands 29 D m zs vs (a .within) (omega (arith, a .within, a .paired)) (a .valid) in
+    ((stands, a .positive, a .shallow, a .batched, a .room, omega (arith, a .room, a .paired)), cells-pass bad D (mapEnd 29 D (take m zs)) 0 hs xs (a .batched) (a .cells))
 
 -- The total of a map is the sum of the counts in its places.
 pub held-total : (K m : ℕ) (zs vs : List ℕ) → Stands K m zs vs → totalOf (held K m zs vs) ≡ sumOf (take m vs)

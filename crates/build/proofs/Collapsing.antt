@@ -17,7 +17,7 @@ use Rattle.zuniq.proofs.Basics.{and-is-true}
 use Rattle.zuniq.proofs.Ranges.{child-valid-iff}
 use Rattle.build.specs.Map.{Entry, entry, Merger}
 use Rattle.build.specs.Stack.{step, collapseUpTo, collapse}
-use Rattle.build.specs.Promises.{total}
+use Rattle.build.specs.Promises.{total, Sums}
 use Rattle.build.specs.Buffers.{held}
 use Rattle.build.specs.Standing.{Stands, quadAt, Collapsed}
 use Rattle.build.proofs.Places.{held-suc, held-set, stands-set, fewer}
@@ -34,8 +34,8 @@ unfolding collapseUpTo
 collapse-some accept n s t e = rw (e, collapseUpTo) refl
 
 -- The parent of a cell in range.
-pub parent-zuniq : (K z d h : ℕ) → 0 < d → IsZuniqOf K z d h → IsZuniqOf K (zuniq K (d - 1) (h / 4)) (d - 1) (h / 4)
-parent-zuniq K z d h p v =
+pub parent-zuniq : {K z d h : ℕ} → 0 < d → IsZuniqOf K z d h → IsZuniqOf K (zuniq K (d - 1) (h / 4)) (d - 1) (h / 4)
+parent-zuniq {K} {z} {d} {h} p v =
     let up : suc (d - 1) ≡ d = omega arith in
     let l : 4 * (h / 4) + h % 4 < nHash (suc (d - 1)) = subst (λ (n : ℕ). 4 * (h / 4) + h % 4 < nHash n) (sym up) (let e : 4 * (h / 4) + h % 4 ≡ h = omega arith in rw e (v .hash)) in
     record { deep = omega (arith, v .deep); hash = child-valid-iff (d - 1) (h / 4) (h % 4) (omega arith) .0 l; is = refl }
@@ -49,16 +49,25 @@ pub record Turning {A : Type 0} (accept : Merger A) (K : ℕ) (u : A) (goal : Li
   pub value : getD vs (n - 1) u ≡ x
   pub goes : collapseUpTo accept d (held K n zs vs) ≡ goal
 
-module _ {A : Type 0} (accept : Merger A) (K : ℕ) (u : A) where
-  pub turning-starts : (n d h : ℕ) (x : A) (zs : List ℕ) (vs : List A) → Stands K n zs vs → 0 < n → IsZuniqOf K (getD zs (n - 1) 0) d h → getD vs (n - 1) u ≡ x
+-- Where the last four are a quad, there are four.
+quad-four : (K n : ℕ) (zs : List ℕ) (d h : ℕ) → quadAt K n zs d h ≡ true → 4 ≤ n
+unfolding quadAt
+quad-four K n zs d h e = leb-true 4 n (and-is-true (leb 4 n) _ (and-is-true (eqb (h % 4) 3) _ e .1) .0)
+
+module _ {A : Type 0} {accept : Merger A} {K : ℕ} {u : A} where
+  pub turning-starts : (n : ℕ) {d h : ℕ} {x : A} {zs : List ℕ} {vs : List A} → Stands K n zs vs → 0 < n → IsZuniqOf K (getD zs (n - 1) 0) d h → getD vs (n - 1) u ≡ x
       → Turning accept K u (collapse accept (held K n zs vs)) n d h x zs vs
   unfolding collapse
-  turning-starts zero d h x zs vs w p v y = absurd (omega arith)
-  turning-starts (suc n) d h x zs vs w p v y =
+  turning-starts zero w p v y = absurd (omega arith)
+  turning-starts (suc n) {d} {h} {x} {zs} {vs} w p v y =
       let e : suc n - 1 ≡ n = omega arith in
       record { stands = w; some-left = p; top = v; value = y; goes = rw (held-suc K u n zs vs d h (w .zuniqs) (w .values) (rw e at v)) refl }
 
-  module _ (goal : List (Entry A)) (n d h : ℕ) (last : A) (zs : List ℕ) (vs : List A) (t : Turning accept K u goal n d h last zs vs) where
+  module _ {goal : List (Entry A)} {n d h : ℕ} {last : A} {zs : List ℕ} {vs : List A} (t : Turning accept K u goal n d h last zs vs) where
+    -- where the last four are a quad, there are four
+    pub four-left : quadAt K n zs d h ≡ true → 4 ≤ n
+    four-left e = quad-four K n zs d h e
+
     -- at depth 0, and where the last four are no quad or the merger keeps them, the map is what was to be reached
     pub turning-ends : d ≡ 0 → held K n zs vs ≡ goal
     unfolding collapseUpTo
@@ -75,14 +84,15 @@ module _ {A : Type 0} (accept : Merger A) (K : ℕ) (u : A) where
     kept-ends p e a = stays (step-at accept K u zs vs n d h (t .stands) p (t .top) ∙ rw (e, t .value, a) refl)
 
     -- a merged quad is one turn
-    pub turns : (x : A) (z : ℕ) → 0 < d → 4 ≤ n → z ≡ zuniq K (d - 1) (h / 4) → quadAt K n zs d h ≡ true
+    pub turns : {x : A} {z : ℕ} → 0 < d → z ≡ zuniq K (d - 1) (h / 4) → quadAt K n zs d h ≡ true
         → accept (d - 1) (h / 4) (getD vs (n - 4) u) (getD vs (n - 3) u) (getD vs (n - 2) u) last ≡ some x
         → Turning accept K u goal (n - 4 + 1) (d - 1) (h / 4) x (set zs (n - 4) z) (set vs (n - 4) x)
-    turns x z p q y e a =
+    turns {x} {z} p y e a =
         let w = t .stands in
+        let q = four-left e in
         let lz : n - 4 < length zs = omega (arith, w .zuniqs) in
         let lv : n - 4 < length vs = omega (arith, w .values) in
-        let v : IsZuniqOf K z (d - 1) (h / 4) = rw y (parent-zuniq K (getD zs (n - 1) 0) d h p (t .top)) in
+        let v : IsZuniqOf K z (d - 1) (h / 4) = rw y (parent-zuniq p (t .top)) in
         let i : n - 4 + 1 - 1 ≡ n - 4 = omega arith in
         let f : suc (d - 1) ≡ d = omega arith in
         let s : step accept (held K n zs vs) ≡ some (entry (d - 1) (h / 4) x ∷ held K (n - 4) zs vs) = step-at accept K u zs vs n d h w p (t .top) ∙ rw (e, t .value, a) refl in
@@ -97,17 +107,12 @@ module _ {A : Type 0} (accept : Merger A) (K : ℕ) (u : A) where
               ∙ subst (λ (m : ℕ). collapseUpTo accept m (held K n zs vs) ≡ goal) (sym f) (t .goes));
         }
 
--- Where the last four are a quad, there are four.
-pub quad-four : (K n : ℕ) (zs : List ℕ) (d h : ℕ) → quadAt K n zs d h ≡ true → 4 ≤ n
-unfolding quadAt
-quad-four K n zs d h e = leb-true 4 n (and-is-true (leb 4 n) _ (and-is-true (eqb (h % 4) 3) _ e .1) .0)
-
 module _ {A : Type 0} (K : ℕ) (u : A) (figure : A → ℕ) (zs : List ℕ) (vs : List A) where
   total-suc : (n : ℕ) → Stands K (suc n) zs vs → total figure (held K (suc n) zs vs) ≡ figure (getD vs n u) + total figure (held K n zs vs)
   total-suc n w = let v = w .valid n (omega arith) in rw (held-suc K u n zs vs (v .0) (v .1) (w .zuniqs) (w .values) (v .2)) refl
 
   -- The total of a map, with its last four entries apart.
-  pub total-four : (n : ℕ) → 4 ≤ n → Stands K n zs vs
+  total-four : (n : ℕ) → 4 ≤ n → Stands K n zs vs
       → total figure (held K n zs vs)
       ≡ figure (getD vs (n - 1) u) + (figure (getD vs (n - 2) u) + (figure (getD vs (n - 3) u) + (figure (getD vs (n - 4) u) + total figure (held K (n - 4) zs vs))))
   total-four (suc (suc (suc (suc k)))) p w =
@@ -126,9 +131,24 @@ module _ {A : Type 0} (K : ℕ) (u : A) (figure : A → ℕ) (zs : List ℕ) (vs
   total-four (suc (suc (suc zero))) p w = absurd (omega arith)
 
   -- A quad that is replaced by a value with their sum leaves the total as it was.
-  pub total-merged : (n z d h : ℕ) (x : A) → 4 ≤ n → Stands K n zs vs → IsZuniqOf K z d h
+  total-merged : (n z d h : ℕ) (x : A) → 4 ≤ n → Stands K n zs vs → IsZuniqOf K z d h
       → figure x ≡ figure (getD vs (n - 4) u) + figure (getD vs (n - 3) u) + figure (getD vs (n - 2) u) + figure (getD vs (n - 1) u)
       → total figure (held K (n - 4 + 1) (set zs (n - 4) z) (set vs (n - 4) x)) ≡ total figure (held K n zs vs)
   total-merged n z d h x p w v e =
       rw (add-one (n - 4), held-set K (n - 4) zs vs z d h x (omega (arith, w .zuniqs)) (omega (arith, w .values)) v)
       (omega (arith, total-four n p w))
+
+module _ {A : Type 0} {accept : Merger A} {K : ℕ} {u : A} (figure : A → ℕ) {goal : List (Entry A)} {n d h : ℕ} {last : A} {zs : List ℕ} {vs : List A}
+    (t : Turning accept K u goal n d h last zs vs) (e : quadAt K n zs d h ≡ true) where
+  -- The last four are no more than the total,
+  pub four-within : figure (getD vs (n - 4) u) + figure (getD vs (n - 3) u) + figure (getD vs (n - 2) u) + figure last ≤ total figure (held K n zs vs)
+  four-within = rw (← t .value) (omega (arith, total-four K u figure zs vs n (four-left t e) (t .stands)))
+
+  -- and a turn leaves it as it was.
+  pub turn-total : Sums accept figure → {x : A} {z : ℕ} → 0 < d → z ≡ zuniq K (d - 1) (h / 4)
+      → accept (d - 1) (h / 4) (getD vs (n - 4) u) (getD vs (n - 3) u) (getD vs (n - 2) u) last ≡ some x
+      → total figure (held K (n - 4 + 1) (set zs (n - 4) z) (set vs (n - 4) x)) ≡ total figure (held K n zs vs)
+  turn-total sums {x} {z} p y a =
+      let v : IsZuniqOf K z (d - 1) (h / 4) = rw y (parent-zuniq p (t .top)) in
+      let s = sums (d - 1) (h / 4) (getD vs (n - 4) u) (getD vs (n - 3) u) (getD vs (n - 2) u) last x a in
+      total-merged K u figure zs vs n z (d - 1) (h / 4) x (four-left t e) (t .stands) v (rw (t .value) s)

@@ -92,11 +92,11 @@ module _ {A : Type 0} (K : ℕ) where
     pub value : (u : A) → getD vs′ (n + 1 - 1) u ≡ x
     pub map-is : held K (n + 1) zs′ vs′ ≡ entry d h x ∷ held K n zs vs
 
-  pub stored : (n z d h : ℕ) (x : A) (zs : List ℕ) (vs : List A) (zs′ : List ℕ) (vs′ : List A) → Stands K n zs vs → n < length zs → n < length vs → IsZuniqOf K z d h
-      → zs′ ≡ set zs n z → vs′ ≡ set vs n x → Stored n z d h x zs vs zs′ vs′
-  stored n z d h x zs vs zs′ vs′ w p q v ez ev =
+  pub stored : {n z d h : ℕ} {x : A} {zs : List ℕ} {vs : List A} {zs′ : List ℕ} {vs′ : List A} → Stands K n zs vs → n < length zs → n < length vs → IsZuniqOf K z d h
+      → (zs′ ≡ set zs n z) × (vs′ ≡ set vs n x) → Stored n z d h x zs vs zs′ vs′
+  stored {n} {z} {d} {h} {x} {zs} {vs} w p q v e =
       let i : n + 1 - 1 ≡ n = omega arith in
-      subst₂ (λ (a : List ℕ) (b : List A). Stored n z d h x zs vs a b) (sym ez) (sym ev)
+      subst₂ (λ (a : List ℕ) (b : List A). Stored n z d h x zs vs a b) (sym (e .0)) (sym (e .1))
       (record {
         stands = rw (add-one n) (stands-set n n zs vs z d h x w (omega arith) p q v);
         top = rw (i, getD-set-same zs n z 0 p) v;

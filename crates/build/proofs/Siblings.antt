@@ -1,5 +1,5 @@
 -- Adding four siblings at once, for every type of values and every merger. Assumes nothing.
-use mathlib.Core.Path.{_≡_, refl, ap, _∙_}
+use mathlib.Core.Path.{_≡_, refl, ap, sym, _∙_}
 use mathlib.Core.Bool.{true}
 use mathlib.Core.List.{List, [], _∷_, reverseAux}
 use mathlib.Core.Option.{Option, none, some, Option·map}
@@ -10,13 +10,13 @@ use lib.Dec.{eqb, leb}
 use lib.ListN.{length, getD, set, length-set}
 use borrow.Author.Tests.{leb-true, eqb-true}
 use Rattle.zuniq.specs.Cells.{nHash}
-use Rattle.zuniq.specs.Codec.{IsZuniqOf}
+use Rattle.zuniq.specs.Codec.{zuniq, IsZuniqOf}
 use Rattle.zuniq.proofs.Basics.{and-is-true}
 use Rattle.build.specs.Map.{Entry, entry, Merger}
 use Rattle.build.specs.Stack.{step, collapse, run}
 use Rattle.build.specs.Buffers.{held}
-use Rattle.build.specs.Standing.{Stands, Rising, siblingsFrom, siblings}
-use Rattle.build.proofs.Places.{stored}
+use Rattle.build.specs.Standing.{Stands, Rising, siblingsFrom, siblings, Collapsed, Pushed, Added}
+use Rattle.build.proofs.Places.{Stored, stored}
 use Rattle.build.proofs.Steps.{quad, Stepped, stepped, step-is, step-quad, collapse-stops, collapse-steps}
 
 -- A hash fits 64 bits, and so do those of its siblings.
@@ -48,27 +48,31 @@ siblings-from D hs i r p e =
     record { within = omega arith; first = omega arith; second = omega arith; third = omega arith; fourth = omega arith; below = omega arith }
 
 -- Four siblings put behind n entries, one after the other.
-module _ {A : Type 0} (K n d h : ℕ) (a b c e : A) (z0 z1 z2 z3 : ℕ) (zs zs1 zs2 zs3 zs4 : List ℕ) (vs vs1 vs2 vs3 vs4 : List A) where
-  pub siblings-stored : Stands K n zs vs → n + 4 ≤ length zs → n + 4 ≤ length vs
-      → IsZuniqOf K z0 d h → IsZuniqOf K z1 d (h + 1) → IsZuniqOf K z2 d (h + 2) → IsZuniqOf K z3 d (h + 3)
-      → (zs1 ≡ set zs n z0) × (vs1 ≡ set vs n a) → (zs2 ≡ set zs1 (n + 1) z1) × (vs2 ≡ set vs1 (n + 1) b)
-      → (zs3 ≡ set zs2 (n + 2) z2) × (vs3 ≡ set vs2 (n + 2) c) → (zs4 ≡ set zs3 (n + 3) z3) × (vs4 ≡ set vs3 (n + 3) e)
-      → Stands K (n + 4) zs4 vs4 × (held K (n + 4) zs4 vs4 ≡ reverseAux (siblings d h a b c e) (held K n zs vs))
-  siblings-stored w p q v0 v1 v2 v3 e0 e1 e2 e3 =
-      let n2 : n + 1 + 1 ≡ n + 2 = omega arith in
-      let n3 : n + 2 + 1 ≡ n + 3 = omega arith in
-      let n4 : n + 3 + 1 ≡ n + 4 = omega arith in
-      let l1 : length zs1 ≡ length zs = ap length (e0 .0) ∙ length-set zs n z0 in
-      let m1 : length vs1 ≡ length vs = ap length (e0 .1) ∙ length-set vs n a in
-      let l2 : length zs2 ≡ length zs = ap length (e1 .0) ∙ length-set zs1 (n + 1) z1 ∙ l1 in
-      let m2 : length vs2 ≡ length vs = ap length (e1 .1) ∙ length-set vs1 (n + 1) b ∙ m1 in
-      let l3 : length zs3 ≡ length zs = ap length (e2 .0) ∙ length-set zs2 (n + 2) z2 ∙ l2 in
-      let m3 : length vs3 ≡ length vs = ap length (e2 .1) ∙ length-set vs2 (n + 2) c ∙ m2 in
-      let s0 = stored K n z0 d h a zs vs zs1 vs1 w (omega arith) (omega arith) v0 (e0 .0) (e0 .1) in
-      let s1 = stored K (n + 1) z1 d (h + 1) b zs1 vs1 zs2 vs2 (s0 .stands) (omega arith) (omega arith) v1 (e1 .0) (e1 .1) in
-      let s2 = stored K (n + 2) z2 d (h + 2) c zs2 vs2 zs3 vs3 (rw n2 at (s1 .stands)) (omega arith) (omega arith) v2 (e2 .0) (e2 .1) in
-      let s3 = stored K (n + 3) z3 d (h + 3) e zs3 vs3 zs4 vs4 (rw n3 at (s2 .stands)) (omega arith) (omega arith) v3 (e3 .0) (e3 .1) in
-      (rw n4 at (s3 .stands), (rw n4 at (s3 .map-is)) ∙ ap (λ s. entry d (h + 3) e ∷ s) ((rw n3 at (s2 .map-is)) ∙ ap (λ s. entry d (h + 2) c ∷ s) ((rw n2 at (s1 .map-is)) ∙ ap (λ s. entry d (h + 1) b ∷ s) (s0 .map-is))))
+pub siblings-stored : {A : Type 0} {K n : ℕ} {zs : List ℕ} {vs : List A} (d h : ℕ) (a b c e : A) → Stands K n zs vs → n + 4 ≤ length zs → n + 4 ≤ length vs → d ≤ K → h + 3 < nHash d
+    → {z0 z1 z2 z3 : ℕ} → z0 ≡ zuniq K d h → z1 ≡ zuniq K d (h + 1) → z2 ≡ zuniq K d (h + 2) → z3 ≡ zuniq K d (h + 3)
+    → {zs1 zs2 zs3 zs4 : List ℕ} {vs1 vs2 vs3 vs4 : List A}
+    → (zs1 ≡ set zs n z0) × (vs1 ≡ set vs n a) → (zs2 ≡ set zs1 (n + 1) z1) × (vs2 ≡ set vs1 (n + 1) b)
+    → (zs3 ≡ set zs2 (n + 2) z2) × (vs3 ≡ set vs2 (n + 2) c) → (zs4 ≡ set zs3 (n + 3) z3) × (vs4 ≡ set vs3 (n + 3) e)
+    → Stands K (n + 4) zs4 vs4 × (held K (n + 4) zs4 vs4 ≡ reverseAux (siblings d h a b c e) (held K n zs vs))
+siblings-stored {A} {K} {n} {zs} {vs} d h a b c e w p q deep below {z0} {z1} {z2} {z3} i0 i1 i2 i3 {zs1} {zs2} {zs3} {zs4} {vs1} {vs2} {vs3} {vs4} e0 e1 e2 e3 =
+    let n2 : n + 1 + 1 ≡ n + 2 = omega arith in
+    let n3 : n + 2 + 1 ≡ n + 3 = omega arith in
+    let n4 : n + 3 + 1 ≡ n + 4 = omega arith in
+    let v0 : IsZuniqOf K z0 d h = record { deep = deep; hash = omega arith; is = i0 } in
+    let v1 : IsZuniqOf K z1 d (h + 1) = record { deep = deep; hash = omega arith; is = i1 } in
+    let v2 : IsZuniqOf K z2 d (h + 2) = record { deep = deep; hash = omega arith; is = i2 } in
+    let v3 : IsZuniqOf K z3 d (h + 3) = record { deep = deep; hash = omega arith; is = i3 } in
+    let l1 : length zs1 ≡ length zs = ap length (e0 .0) ∙ length-set zs n z0 in
+    let m1 : length vs1 ≡ length vs = ap length (e0 .1) ∙ length-set vs n a in
+    let l2 : length zs2 ≡ length zs = ap length (e1 .0) ∙ length-set zs1 (n + 1) z1 ∙ l1 in
+    let m2 : length vs2 ≡ length vs = ap length (e1 .1) ∙ length-set vs1 (n + 1) b ∙ m1 in
+    let l3 : length zs3 ≡ length zs = ap length (e2 .0) ∙ length-set zs2 (n + 2) z2 ∙ l2 in
+    let m3 : length vs3 ≡ length vs = ap length (e2 .1) ∙ length-set vs2 (n + 2) c ∙ m2 in
+    let s0 : Stored K n z0 d h a zs vs zs1 vs1 = stored K w (omega arith) (omega arith) v0 e0 in
+    let s1 : Stored K (n + 1) z1 d (h + 1) b zs1 vs1 zs2 vs2 = stored K (s0 .stands) (omega arith) (omega arith) v1 e1 in
+    let s2 : Stored K (n + 2) z2 d (h + 2) c zs2 vs2 zs3 vs3 = stored K (rw n2 at (s1 .stands)) (omega arith) (omega arith) v2 e2 in
+    let s3 : Stored K (n + 3) z3 d (h + 3) e zs3 vs3 zs4 vs4 = stored K (rw n3 at (s2 .stands)) (omega arith) (omega arith) v3 e3 in
+    (rw n4 at (s3 .stands), (rw n4 at (s3 .map-is)) ∙ ap (λ s. entry d (h + 3) e ∷ s) ((rw n3 at (s2 .map-is)) ∙ ap (λ s. entry d (h + 2) c ∷ s) ((rw n2 at (s1 .map-is)) ∙ ap (λ s. entry d (h + 1) b ∷ s) (s0 .map-is))))
 
 module _ {A : Type 0} (accept : Merger A) where
   fourth : (l t : List (Entry A)) → Stepped accept l t → (e : Entry A) (s : List (Entry A)) → l ≡ e ∷ s → e .hash % 4 ≡ 3
@@ -116,3 +120,26 @@ module _ {A : Type 0} (accept : Merger A) where
     siblings-merged x k =
         run-siblings ∙ ap (collapse accept) appended-quad
         ∙ collapse-steps accept (quad (d - 1) (h / 4) a b c e s) (entry (d - 1) (h / 4) x ∷ s) (stepped (d - 1) (h / 4) a b c e x s k)
+
+-- ---- as the entries stand in the buffers
+module _ {A : Type 0} {accept : Merger A} {K n d h : ℕ} {zs : List ℕ} {vs : List A} where
+  module _ {z : ℕ} {x : A} {zs′ : List ℕ} {vs′ : List A} (s : Stored K n z d h x zs vs zs′ vs′) where
+    -- A cell that is stored is pushed, if it is no fourth child,
+    pub no-fourth-pushed : (h % 4 ≡ 3 → ⊥) → Pushed accept K n (entry d h x) zs vs (n + 1) zs′ vs′
+    no-fourth-pushed f = record { stands = s .stands; least = omega arith; is = s .map-is ∙ sym (collapse-no-fourth accept (entry d h x) (held K n zs vs) f) }
+
+    -- or else once the map is collapsed.
+    pub collapsed-pushed : {r : ℕ} {zs″ : List ℕ} {vs″ : List A} → Collapsed accept K (n + 1) zs′ vs′ r zs″ vs″ → Pushed accept K n (entry d h x) zs vs r zs″ vs″
+    collapsed-pushed w = record { stands = w .stands; least = w .least; is = w .is ∙ ap (collapse accept) (s .map-is) }
+
+  module _ {a b c e : A} (p : 0 < d) (q : h % 4 ≡ 0) where
+    -- Four siblings that the merger keeps are added by appending them,
+    pub kept-added : accept (d - 1) (h / 4) a b c e ≡ none → {zs′ : List ℕ} {vs′ : List A}
+        → Stands K (n + 4) zs′ vs′ × (held K (n + 4) zs′ vs′ ≡ reverseAux (siblings d h a b c e) (held K n zs vs))
+        → Added accept K n (siblings d h a b c e) zs vs (n + 4) zs′ vs′
+    kept-added k s = record { stands = s .0; least = omega arith; is = s .1 ∙ sym (siblings-kept accept d h a b c e (held K n zs vs) p q k) }
+
+    -- and those that it accepts by pushing their parent.
+    pub merged-added : {x : A} → accept (d - 1) (h / 4) a b c e ≡ some x → {r : ℕ} {zs′ : List ℕ} {vs′ : List A}
+        → Pushed accept K n (entry (d - 1) (h / 4) x) zs vs r zs′ vs′ → Added accept K n (siblings d h a b c e) zs vs r zs′ vs′
+    merged-added {x} k w = record { stands = w .stands; least = omega (arith, w .least); is = w .is ∙ sym (siblings-merged accept d h a b c e (held K n zs vs) p q x k) }

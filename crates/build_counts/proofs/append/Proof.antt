@@ -41,7 +41,10 @@ same-length-2 : tie.Need-same-length-2
 same-length-2 c = search needs
 
 returns : tie.Need-returns
-returns c = let a = c .before .before .before .before .before .before .before .before .before .before .args in (put-front (a .n) (a .zuniqs .now) _ (a .zuniq) (c .before .before .before .before .before .before .before .before .before .before .pre .0) (c .before .before .before .before .before .before .put-zuniq .ensures), put-front (a .n) (a .counts .now) _ (a .count) (c .before .before .before .before .before .before .before .before .before .before .pre .1) (c .before .before .put-count .ensures))
+returns c =
+    let s = c .before .before .before .before .before .before .before .before .before .before in
+    let a = s .args in
+    (put-front (a .n) (a .zuniqs .now) _ (a .zuniq) (s .pre .0) (c .before .before .before .before .before .before .put-zuniq .ensures), put-front (a .n) (a .counts .now) _ (a .count) (s .pre .1) (c .before .before .put-count .ensures))
 
 pub append-spec : {M : Type 1} → statement M
 append-spec =

@@ -41,9 +41,10 @@ same-length-2 : tie.Need-same-length-2
 same-length-2 c = search needs
 
 returns : tie.Need-returns
-returns c = let a = c .before .before .before .before .before .before .before .before .before .before .args in
-    let p = c .before .before .before .before .before .before .before .before .before .before .pre in
-    (put-front (a .n) (a .zuniqs .now) _ (a .zuniq) (p .0) (c .before .before .before .before .before .before .put-zuniq .ensures), put-front (a .n) (a .densities .now) _ (a .density) (p .1) (c .before .before .put-density .ensures))
+returns c =
+    let s = c .before .before .before .before .before .before .before .before .before .before in
+    let a = s .args in
+    (put-front (a .n) (a .zuniqs .now) _ (a .zuniq) (s .pre .0) (c .before .before .before .before .before .before .put-zuniq .ensures), put-front (a .n) (a .densities .now) _ (a .density) (s .pre .1) (c .before .before .put-density .ensures))
 
 pub append-spec : {M : Type 1} → statement M
 append-spec =
