@@ -1,17 +1,35 @@
 -- `add_counts` meets its contract. Assumes nothing.
-use mathlib.Core.Path.{refl, sym, _∙_}
-use Prim.Native.Nat.{_+_}
+use mathlib.Core.Path.{_≡_, refl, sym, _∙_}
+use mathlib.Core.Option.{Option, none}
+use Prim.Native.Nat.{ℕ, _+_}
 use native.Mathlib.Omega.{arith}
 use lib.ListN.{length, take}
 use borrow.Author.Needs.{needs}
+use Rattle.refusal.specs.declared.Refusal.{Refusal}
 use Rattle.build.specs.Calls.{addCall}
-use Rattle.build.specs.Add.{sumOf, mapEnd}
-use Rattle.build.specs.Counts.{never, countsRefusal, addCounts}
-use Rattle.build.proofs.Checking.{total-passed, total-refused, cells-pass}
-use Rattle.build.proofs.Accepted.{counts-accepted, valid-stands, held-total, cleared, counts-left}
+use Rattle.build.specs.Add.{sumOf}
+use Rattle.build.specs.Counts.{countsRefusal, addCounts}
+use Rattle.build.proofs.Checking.{total-passed, total-refused}
+use Rattle.build.proofs.Accepted.{counts-accepted, may-push, held-total, cleared, counts-left}
 use Rattle.build_counts.proofs.add_counts.Statement.{statement}
 use Rattle.build_counts.proofs.add_counts.Tie as tie
 
+-- ---- what is checked
+abbrev start : tie.After-check → tie.Start
+start c = c .before .before .before .before .before .before .before
+
+abbrev fault : tie.Start → Option Refusal
+fault s =
+    let a = s .args in
+    countsRefusal (a .depth) (a .depth-threshold) (a .chi2-threshold) (a .held) (length (a .zuniqs .now)) (length (a .counts .now)) (take (a .held) (a .zuniqs .now)) (take (a .held) (a .counts .now)) (a .hashes .now) (a .batch .now)
+
+abbrev sum : tie.Start → ℕ
+sum s = sumOf (take (s .args .held) (s .args .counts .now)) + sumOf (s .args .batch .now)
+
+passed : (c : tie.After-checked2) → let s = start (c .before .before) in (fault s ≡ none) × (sum s ≡ c .checked2 .given .0 .0)
+passed c = let s = start (c .before .before) in total-passed (fault s) (sum s) (c .checked2 .given .0 .0) (sym (c .before .before .check .ensures) ∙ c .checked2 .given .1)
+
+-- ---- the answers
 check-requires : tie.Need-check-requires
 check-requires c κs = search needs
 
@@ -22,14 +40,13 @@ enum-known-checked-2 : tie.Need-enum-known-checked-2
 enum-known-checked-2 c = search needs
 
 push-all-requires : tie.Need-push-all-requires
-push-all-requires c κs = let x = c .before .before .before .before .before .before .before .before .before .before .before .before .args in
-    let r = countsRefusal (x .depth) (x .depth-threshold) (x .chi2-threshold) (x .held) (length (x .zuniqs .now)) (length (x .counts .now)) (take (x .held) (x .zuniqs .now)) (take (x .held) (x .counts .now)) (x .hashes .now) (x .batch .now) in
-    let q = total-passed r (sumOf (take (x .held) (x .counts .now)) + sumOf (x .batch .now)) (c .before .before .before .checked2 .given .0 .0) (sym (c .before .before .before .before .before .check .ensures) ∙ c .before .before .before .checked2 .given .1) in
-    let g = counts-accepted (x .depth) (x .depth-threshold) (x .chi2-threshold) (x .held) (length (x .zuniqs .now)) (length (x .counts .now)) (take (x .held) (x .zuniqs .now)) (take (x .held) (x .counts .now)) (x .hashes .now) (x .batch .now) (q .0) in
-    let a = g .0 in
-    let s = valid-stands 29 (x .depth) (x .held) (x .zuniqs .now) (x .counts .now) (a .within) (omega (arith, a .within, a .paired)) (a .valid) in
-    let rising = cells-pass never (x .depth) (mapEnd 29 (x .depth) (take (x .held) (x .zuniqs .now))) 0 (x .hashes .now) (x .batch .now) (a .batched) (a .cells) in
-    ((s, a .positive, a .shallow, a .batched, a .room, omega (arith, a .room, a .paired)), (rising, omega (arith, g .1, held-total 29 (x .held) (x .zuniqs .now) (x .counts .now) s)))
+push-all-requires c κs =
+    let k = c .before .before .before in
+    let a = start (k .before .before) .args in
+    let g =
+    counts-accepted (a .depth) (a .depth-threshold) (a .chi2-threshold) (a .held) (length (a .zuniqs .now)) (length (a .counts .now)) (take (a .held) (a .zuniqs .now)) (take (a .held) (a .counts .now)) (a .hashes .now) (a .batch .now) (passed k .0) in
+    let p = may-push {zs = a .zuniqs .now} {vs = a .counts .now} (g .0) in
+    (p .0, (p .1, omega (arith, g .1, held-total 29 (a .held) (a .zuniqs .now) (a .counts .now) (p .0 .0))))
 
 mul-clear-zuniqs : tie.Need-mul-clear-zuniqs
 mul-clear-zuniqs c = search needs
@@ -69,9 +86,10 @@ same-length-2 c = search needs
 
 returns : tie.Need-returns
 unfolding addCounts addCall
-returns c = let x = c .before .before .before .before .before .before .before .before .before .before .args in
-    let r = countsRefusal (x .depth) (x .depth-threshold) (x .chi2-threshold) (x .held) (length (x .zuniqs .now)) (length (x .counts .now)) (take (x .held) (x .zuniqs .now)) (take (x .held) (x .counts .now)) (x .hashes .now) (x .batch .now) in
-    rw (total-refused r (sumOf (take (x .held) (x .counts .now)) + sumOf (x .batch .now)) (c .before .checked .given .0 .0) (sym (c .before .before .before .check .ensures) ∙ c .before .checked .given .1)) refl
+returns c =
+    let k = c .before in
+    let s = start (k .before .before) in
+    rw (total-refused (fault s) (sum s) (k .checked .given .0 .0) (sym (k .before .before .check .ensures) ∙ k .checked .given .1)) refl
 
 same-length-3 : tie.Need-same-length-3
 same-length-3 c = search needs
@@ -80,13 +98,16 @@ same-length-4 : tie.Need-same-length-4
 same-length-4 c = search needs
 
 returns-2 : tie.Need-returns-2
-returns-2 c = let x = c .before .before .before .before .before .before .before .before .before .before .before .before .before .before .before .before .before .before .before .before .before .before .before .before .before .args in
-    let p = c .before .before .before .before .before .before .before .before .before .before .before .before .push-all in
+returns-2 c =
+    let pushed = c .before .before .before .before .before .before .before .before .before .before .before .before in
+    let p = pushed .push-all in
+    let k = pushed .before .before .before .before in
+    let a = start (k .before .before) .args in
     let w = p .ensures in
-    let r = countsRefusal (x .depth) (x .depth-threshold) (x .chi2-threshold) (x .held) (length (x .zuniqs .now)) (length (x .counts .now)) (take (x .held) (x .zuniqs .now)) (take (x .held) (x .counts .now)) (x .hashes .now) (x .batch .now) in
-    let q = total-passed r (sumOf (take (x .held) (x .counts .now)) + sumOf (x .batch .now)) (c .before .before .before .before .before .before .before .before .before .before .before .before .before .before .before .before .checked2 .given .0 .0) (sym (c .before .before .before .before .before .before .before .before .before .before .before .before .before .before .before .before .before .before .check .ensures) ∙ c .before .before .before .before .before .before .before .before .before .before .before .before .before .before .before .before .checked2 .given .1) in
-    counts-left (x .depth) (x .depth-threshold) (x .chi2-threshold) (x .held) (x .zuniqs .now) (x .counts .now) (x .hashes .now) (x .batch .now) (q .0) (p .result) (c .before .before .before .before .before .before .before .before .before .before .before .before .before .before .before .before .checked2 .given .0 .0) (p .last .0) (p .last .1 .0) _ _ w (p .kept .0) (p .kept .1 .0)
-    (cleared (p .result) (p .last .0) _ 0 (w .stands .zuniqs) (c .before .before .before .before .before .before .clear-zuniqs .ensures)) (cleared (p .result) (p .last .1 .0) _ 0 (w .stands .values) (c .before .before .clear-counts .ensures)) (q .1)
+    let zs = cleared (p .result) (p .last .0) _ 0 (w .stands .zuniqs) (c .before .before .before .before .before .before .clear-zuniqs .ensures) in
+    let vs = cleared (p .result) (p .last .1 .0) _ 0 (w .stands .values) (c .before .before .clear-counts .ensures) in
+    counts-left (a .depth) (a .depth-threshold) (a .chi2-threshold) (a .held) (a .zuniqs .now) (a .counts .now) (a .hashes .now) (a .batch .now) (passed k .0) (p .result) (k .checked2 .given .0 .0) (p .last .0) (p .last .1 .0) _ _ w
+    (p .kept .0) (p .kept .1 .0) zs vs (passed k .1)
 
 pub add-counts-spec : {M : Type 1} → statement M
 add-counts-spec =

@@ -1,12 +1,15 @@
 -- `check_cells` meets its contract. The loop's invariant: the cells passed are not refused. Assumes nothing.
 use mathlib.Core.Path.{_≡_, refl, sym, _∙_}
-use Prim.Native.Nat.{ℕ, _-_, _≤_}
+use mathlib.Core.Option.{Option, none}
+use Prim.Native.Nat.{_+_, _-_, _≤_}
 use native.Mathlib.Omega.{arith}
 use lib.ListN.{length, getD, drop}
 use borrow.Author.Needs.{needs}
 use Rattle.zuniq.specs.Cells.{nHash}
-use Rattle.build.specs.Add.{cellRefusal, hashesRefusal}
-use Rattle.build.proofs.Checking.{check-passed, check-refused, cell-passes, hashes-at, hashes-end}
+use Rattle.refusal.specs.declared.Refusal.{Refusal}
+use Rattle.build.specs.Map.{orElse}
+use Rattle.build.specs.Add.{checkOf, cellRefusal, hashesRefusal}
+use Rattle.build.proofs.Checking.{check-passed, refuses, cell-passes, hashes-at, hashes-end}
 use Rattle.build_counts.proofs.check_cells.Statement.{statement}
 use Rattle.build_counts.proofs.check_cells.Tie as tie
 
@@ -16,6 +19,32 @@ Inv-loop depth end hashes n-hash least₀ i₀ least i = (i ≤ length hashes) �
 abbrev μ-loop : tie.MeasureT-loop
 μ-loop depth end hashes n-hash least₀ i₀ least i = length hashes - i
 
+-- ---- a turn
+abbrev start : tie.At-loop Inv-loop μ-loop → tie.Start Inv-loop μ-loop
+start c = c .before .before .before
+
+abbrev turn : tie.After-check-cell Inv-loop μ-loop → tie.At-loop Inv-loop μ-loop
+turn c = c .before .before .before
+
+-- what the cell is refused for
+abbrev fault : tie.After-check-cell Inv-loop μ-loop → Option Refusal
+fault c = let a = start (turn c) .args in let o = turn c .loop in cellRefusal (nHash (a .depth)) (o .least) (getD (a .hashes .now) (o .i) 0) (o .i)
+
+checked : (c : tie.After-check-cell Inv-loop μ-loop) → c .check-cell .result ≡ checkOf (fault c)
+checked c = rw (turn c .before .n-hash-unchecked .ensures) at (c .check-cell .ensures)
+
+passed : (c : tie.After-enum-told Inv-loop μ-loop) → fault (c .before .before) ≡ none
+passed c = check-passed _ (sym (c .enum-told .given .1) ∙ checked (c .before .before))
+
+-- and the batch, once the cells before it have passed
+split : (c : tie.After-check-cell Inv-loop μ-loop) → let a = start (turn c) .args in
+    let o = turn c .loop in
+    let hash = getD (a .hashes .now) (o .i) 0 in
+    hashesRefusal (a .depth) (a .end) 0 (a .hashes .now)
+    ≡ orElse (fault c) (hashesRefusal (a .depth) (hash + 1) (o .i + 1) (drop (o .i + 1) (a .hashes .now)))
+split c = let a = start (turn c) .args in let o = turn c .loop in sym (o .inv .1) ∙ hashes-at (a .depth) (o .least) (o .i) (a .hashes .now) (c .before .before .loop-test .taken)
+
+-- ---- the answers
 n-hash-unchecked-requires : tie.Need-n-hash-unchecked-requires Inv-loop μ-loop
 n-hash-unchecked-requires c κs = search needs
 
@@ -35,13 +64,17 @@ enum-known-refusal : tie.Need-enum-known-refusal Inv-loop μ-loop
 enum-known-refusal c = search needs
 
 returns : tie.Need-returns Inv-loop μ-loop
-returns c = rw (← c .before .before .before .before .before .before .loop .inv .1, hashes-at (c .before .before .before .before .before .before .before .before .before .args .depth) (c .before .before .before .before .before .before .loop .least) (c .before .before .before .before .before .before .loop .i) (c .before .before .before .before .before .before .before .before .before .args .hashes .now) (c .before .before .before .before .before .loop-test .taken), check-refused (cellRefusal (nHash (c .before .before .before .before .before .before .before .before .before .args .depth)) (c .before .before .before .before .before .before .loop .least) (getD (c .before .before .before .before .before .before .before .before .before .args .hashes .now) (c .before .before .before .before .before .before .loop .i) 0) (c .before .before .before .before .before .before .loop .i)) (c .before .refusal .given .0 .0) (rw (c .before .before .before .before .before .before .before .n-hash-unchecked .ensures) at (sym (c .before .refusal .given .1) ∙ c .before .before .before .check-cell .ensures))) refl
+returns c = let k = c .before .before .before in rw (split k ∙ refuses (fault k) _ (checked k) (c .before .refusal .given .1)) refl
 
 enum-told : tie.Need-enum-told Inv-loop μ-loop
 enum-told c = search needs
 
 add-least : tie.Need-add-least Inv-loop μ-loop
-add-least c = let p = cell-passes (c .before .before .before .before .before .before .n-hash-unchecked .result) (c .before .before .before .before .before .loop .least) (getD (c .before .before .before .before .before .before .before .before .args .hashes .now) (c .before .before .before .before .before .loop .i) 0) (c .before .before .before .before .before .loop .i) (check-passed _ (sym (c .enum-told .given .1) ∙ c .before .before .check-cell .ensures)) in record { fits = omega (arith, p .0, c .before .before .before .before .before .before .n-hash-unchecked .ok) }
+add-least c =
+    let t = turn (c .before .before) in
+    let o = t .loop in
+    let p = cell-passes (nHash (start t .args .depth)) (o .least) (getD (start t .args .hashes .now) (o .i) 0) (o .i) (passed c) in
+    record { fits = omega (arith, p .0, t .before .n-hash-unchecked .ensures, t .before .n-hash-unchecked .ok) }
 
 add-i : tie.Need-add-i Inv-loop μ-loop
 add-i c = search needs
@@ -50,10 +83,10 @@ loop-less : tie.Need-loop-less Inv-loop μ-loop
 loop-less c = search needs
 
 loop-again : tie.Need-loop-again Inv-loop μ-loop
-loop-again c = (omega arith, rw (hashes-at (c .before .before .before .before .before .before .before .before .args .depth) (c .before .before .before .before .before .loop .least) (c .before .before .before .before .before .loop .i) (c .before .before .before .before .before .before .before .before .args .hashes .now) (c .before .before .before .before .loop-test .taken), (check-passed (cellRefusal (nHash (c .before .before .before .before .before .before .before .before .args .depth)) (c .before .before .before .before .before .loop .least) (getD (c .before .before .before .before .before .before .before .before .args .hashes .now) (c .before .before .before .before .before .loop .i) 0) (c .before .before .before .before .before .loop .i)) (rw (c .before .before .before .before .before .before .n-hash-unchecked .ensures) at (sym (c .enum-told .given .1) ∙ c .before .before .check-cell .ensures)))) at (c .before .before .before .before .before .loop .inv .1))
+loop-again c = (omega arith, sym (rw (passed c) at (split (c .before .before))))
 
 returns-2 : tie.Need-returns-2 Inv-loop μ-loop
-returns-2 c = rw (← c .before .loop .inv .1, hashes-end (c .before .before .before .before .args .depth) (c .before .loop .least) (c .before .loop .i) (c .before .before .before .before .args .hashes .now) (c .loop-test .left)) refl
+returns-2 c = let a = start (c .before) .args in let o = c .before .loop in rw (← o .inv .1, hashes-end (a .depth) (o .least) (o .i) (a .hashes .now) (c .loop-test .left)) refl
 
 pub check-cells-spec : {M : Type 1} → statement M
 check-cells-spec =

@@ -1,18 +1,31 @@
 -- `add_densities` meets its contract. Assumes nothing.
-use mathlib.Core.Path.{refl, sym, _∙_}
-use native.Mathlib.Omega.{arith}
+use mathlib.Core.Path.{_≡_, refl, sym, _∙_}
+use mathlib.Core.Option.{Option, none}
 use lib.ListN.{length, take}
 use borrow.Author.Needs.{needs}
-use Rattle.merger.specs.Floats.{0·0, invalidDensity}
+use Rattle.refusal.specs.declared.Refusal.{Refusal}
+use Rattle.merger.specs.Floats.{0·0}
 use Rattle.build.specs.Calls.{addCall}
-use Rattle.build.specs.Add.{mapEnd}
 use Rattle.build.specs.Densities.{densitiesRefusal, addDensities}
-use Rattle.build.proofs.Checking.{check-passed, check-refused, cells-pass}
-use Rattle.build.proofs.Accepted.{valid-stands, cleared}
+use Rattle.build.proofs.Checking.{check-passed, check-refused}
+use Rattle.build.proofs.Accepted.{may-push, cleared}
 use Rattle.build.proofs.DensityCalls.{densities-accepted, densities-left}
 use Rattle.build_densities.proofs.add_densities.Statement.{statement}
 use Rattle.build_densities.proofs.add_densities.Tie as tie
 
+-- ---- what is checked
+abbrev start : tie.After-check → tie.Start
+start c = c .before .before .before .before .before .before .before
+
+abbrev fault : tie.Start → Option Refusal
+fault s =
+    let a = s .args in
+    densitiesRefusal (a .depth) (a .depth-threshold) (a .chi2-threshold) (a .held) (length (a .zuniqs .now)) (length (a .densities .now)) (take (a .held) (a .zuniqs .now)) (take (a .held) (a .densities .now)) (a .hashes .now) (a .batch .now)
+
+passed : (c : tie.After-enum-told) → fault (start (c .before .before)) ≡ none
+passed c = check-passed _ (sym (c .enum-told .given .1) ∙ c .before .before .check .ensures)
+
+-- ---- the answers
 check-requires : tie.Need-check-requires
 check-requires c κs = search needs
 
@@ -27,21 +40,19 @@ same-length-2 c = search needs
 
 returns : tie.Need-returns
 unfolding addDensities addCall
-returns c = let x = c .before .before .before .before .before .before .before .before .before .before .args in
-    let r = densitiesRefusal (x .depth) (x .depth-threshold) (x .chi2-threshold) (x .held) (length (x .zuniqs .now)) (length (x .densities .now)) (take (x .held) (x .zuniqs .now)) (take (x .held) (x .densities .now)) (x .hashes .now) (x .batch .now) in
-    rw (check-refused r (c .before .refusal .given .0 .0) (sym (c .before .refusal .given .1) ∙ c .before .before .before .check .ensures)) refl
+returns c =
+    let k = c .before in
+    rw (check-refused (fault (start (k .before .before))) (k .refusal .given .0 .0) (sym (k .refusal .given .1) ∙ k .before .before .check .ensures)) refl
 
 enum-told : tie.Need-enum-told
 enum-told c = search needs
 
 push-all-requires : tie.Need-push-all-requires
-push-all-requires c κs = let x = c .before .before .before .before .before .before .before .before .before .before .before .args in
-    let r = densitiesRefusal (x .depth) (x .depth-threshold) (x .chi2-threshold) (x .held) (length (x .zuniqs .now)) (length (x .densities .now)) (take (x .held) (x .zuniqs .now)) (take (x .held) (x .densities .now)) (x .hashes .now) (x .batch .now) in
-    let q = check-passed r (sym (c .before .before .enum-told .given .1) ∙ c .before .before .before .before .check .ensures) in
-    let a = densities-accepted (x .depth) (x .depth-threshold) (x .chi2-threshold) (x .held) (length (x .zuniqs .now)) (length (x .densities .now)) (take (x .held) (x .zuniqs .now)) (take (x .held) (x .densities .now)) (x .hashes .now) (x .batch .now) q in
-    let s = valid-stands 29 (x .depth) (x .held) (x .zuniqs .now) (x .densities .now) (a .within) (omega (arith, a .within, a .paired)) (a .valid) in
-    let rising = cells-pass invalidDensity (x .depth) (mapEnd 29 (x .depth) (take (x .held) (x .zuniqs .now))) 0 (x .hashes .now) (x .batch .now) (a .batched) (a .cells) in
-    ((s, a .positive, a .shallow, a .batched, a .room, omega (arith, a .room, a .paired)), rising)
+push-all-requires c κs =
+    let k = c .before .before in
+    let a = start (k .before .before) .args in
+    may-push
+    (densities-accepted (a .depth) (a .depth-threshold) (a .chi2-threshold) (a .held) (length (a .zuniqs .now)) (length (a .densities .now)) (take (a .held) (a .zuniqs .now)) (take (a .held) (a .densities .now)) (a .hashes .now) (a .batch .now) (passed k))
 
 mul-clear-zuniqs : tie.Need-mul-clear-zuniqs
 mul-clear-zuniqs c = search needs
@@ -80,13 +91,16 @@ same-length-4 : tie.Need-same-length-4
 same-length-4 c = search needs
 
 returns-2 : tie.Need-returns-2
-returns-2 c = let x = c .before .before .before .before .before .before .before .before .before .before .before .before .before .before .before .before .before .before .before .before .before .before .before .before .args in
-    let p = c .before .before .before .before .before .before .before .before .before .before .before .before .push-all in
+returns-2 c =
+    let pushed = c .before .before .before .before .before .before .before .before .before .before .before .before in
+    let p = pushed .push-all in
+    let k = pushed .before .before .before in
+    let a = start (k .before .before) .args in
     let w = p .ensures in
-    let r = densitiesRefusal (x .depth) (x .depth-threshold) (x .chi2-threshold) (x .held) (length (x .zuniqs .now)) (length (x .densities .now)) (take (x .held) (x .zuniqs .now)) (take (x .held) (x .densities .now)) (x .hashes .now) (x .batch .now) in
-    let q = check-passed r (sym (c .before .before .before .before .before .before .before .before .before .before .before .before .before .before .before .enum-told .given .1) ∙ c .before .before .before .before .before .before .before .before .before .before .before .before .before .before .before .before .before .check .ensures) in
-    densities-left (x .depth) (x .depth-threshold) (x .chi2-threshold) (x .held) (x .zuniqs .now) (x .densities .now) (x .hashes .now) (x .batch .now) q (p .result) (p .last .0) (p .last .1 .0) _ _ w (p .kept .0) (p .kept .1 .0)
-    (cleared (p .result) (p .last .0) _ 0 (w .stands .zuniqs) (c .before .before .before .before .before .before .clear-zuniqs .ensures)) (cleared (p .result) (p .last .1 .0) _ 0·0 (w .stands .values) (c .before .before .clear-densities .ensures))
+    let zs = cleared (p .result) (p .last .0) _ 0 (w .stands .zuniqs) (c .before .before .before .before .before .before .clear-zuniqs .ensures) in
+    let vs = cleared (p .result) (p .last .1 .0) _ 0·0 (w .stands .values) (c .before .before .clear-densities .ensures) in
+    densities-left (a .depth) (a .depth-threshold) (a .chi2-threshold) (a .held) (a .zuniqs .now) (a .densities .now) (a .hashes .now) (a .batch .now) (passed k) (p .result) (p .last .0) (p .last .1 .0) _ _ w
+    (p .kept .0) (p .kept .1 .0) zs vs
 
 pub add-densities-spec : {M : Type 1} → statement M
 add-densities-spec =
