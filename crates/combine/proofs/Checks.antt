@@ -1,28 +1,15 @@
--- What the checks of a call answer, one after the other. Assumes nothing.
-use mathlib.Core.Path.{_≡_, refl, sym, _∙_}
+-- What the check of the sums of two maps answers. Assumes nothing.
+use mathlib.Core.Path.{_≡_, refl, _∙_}
 use mathlib.Core.List.{List}
 use mathlib.Core.Logic.{⊎-elim}
-use mathlib.Core.Option.{Option, some}
 use Prim.Native.Nat.{ℕ, _+_, _≤_, _<_, min}
 use native.Mathlib.Omega.{arith}
 use borrow.Author.Tests.{lt-ltb}
 use Rattle.zuniq.proofs.Basics.{le-or-lt}
-use Rattle.refusal.specs.declared.Refusal.{Refusal}
-use Rattle.build.specs.Map.{orElse}
-use Rattle.build.specs.Add.{checkOf, sumOf, cappedSum}
+use Rattle.build.specs.Add.{sumOf, cappedSum}
 use Rattle.build.specs.Counts.{totalOr}
-use Rattle.build.specs.declared.Check.{Check}
 use Rattle.build.specs.declared.counts.Total.{Total}
-use Rattle.build.proofs.Checking.{check-passed, check-refused}
 use Rattle.combine.specs.Pool.{sumsRefusal}
-
--- A check that passes leaves it to the later ones,
-pub passes : {x : Check} (o p : Option Refusal) → x ≡ checkOf o → x ≡ Check.Passed → orElse o p ≡ p
-passes o p e q = rw (check-passed o (sym q ∙ e)) refl
-
--- and one that refuses settles it.
-pub refuses : {x : Check} {q : Refusal} (o p : Option Refusal) → x ≡ checkOf o → x ≡ Check.Refused q → orElse o p ≡ some q
-refuses {q = q} o p e k = rw (check-refused o q (sym k ∙ e)) refl
 
 -- Capped sums tell as much as the sums.
 pub sums-uncapped : (vs ws : List ℕ) (r : Total) → r ≡ totalOr (sumsRefusal (cappedSum vs) (cappedSum ws)) (cappedSum vs + cappedSum ws) → r ≡ totalOr (sumsRefusal (sumOf vs) (sumOf ws)) (sumOf vs + sumOf ws)

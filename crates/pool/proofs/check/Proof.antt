@@ -8,7 +8,8 @@ use Rattle.mom.specs.Map.{firstFault}
 use Rattle.build.specs.Map.{orElse}
 use Rattle.build.specs.Add.{mapRefusal, cappedSum}
 use Rattle.combine.specs.Pool.{settingsRefusal, pairsRefusal, mapsRefusal, poolInputRefusal}
-use Rattle.combine.proofs.Checks.{passes, refuses, sums-uncapped}
+use Rattle.build.proofs.Checking.{passes, refuses}
+use Rattle.combine.proofs.Checks.{sums-uncapped}
 use borrow.Author.Needs.{needs}
 use Rattle.pool.proofs.check.Statement.{statement}
 use Rattle.pool.proofs.check.Tie as tie

@@ -7,7 +7,7 @@ use Rattle.mom.specs.Map.{firstFault}
 use Rattle.build.specs.Map.{orElse}
 use Rattle.build.specs.Add.{mapRefusal}
 use Rattle.combine.specs.Pool.{settingsRefusal, factorRefusal, pairsRefusal, mapsRefusal, mapDensitiesRefusal, productInputRefusal}
-use Rattle.combine.proofs.Checks.{passes, refuses}
+use Rattle.build.proofs.Checking.{passes, refuses}
 use borrow.Author.Needs.{needs}
 use Rattle.product.proofs.check.Statement.{statement}
 use Rattle.product.proofs.check.Tie as tie
