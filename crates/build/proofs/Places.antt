@@ -7,8 +7,8 @@ use Prim.Native.Nat.{ℕ, zero, suc, _+_, _*_, _≤_, _<_, _-_}
 use native.Mathlib.Numerals.{add-one}
 use native.Mathlib.Omega.{arith}
 use native.Mathlib.Nat.{suc-inj, eq-or-lt-of-le, le-of-suc-le-suc}
-use lib.ListN.{length, getD, take, set, replicate, length-set, length-take}
-use lib.Seq.{take-suc, take-set-le, take-suc-set, length-take-le, getD-set-same, getD-set-other}
+use lib.ListN.{length, getD, take, drop, set, replicate, length-set, length-take}
+use lib.Seq.{drop-set-lt, take-suc, take-set-le, take-suc-set, length-take-le, getD-set-same, getD-set-other}
 use borrow.Rule.Slice.PartMut.{midOf, putMid, set-mid-at, mid-len}
 use Rattle.zuniq.specs.Codec.{zuniq, IsZuniqOf, decode}
 use Rattle.zuniq.specs.declared.Decoded.{Decoded}
@@ -16,7 +16,20 @@ use Rattle.zuniq.proofs.Codec.{cell, decodes}
 use Rattle.build.specs.Map.{Entry, entry}
 use Rattle.build.proofs.Buffers.{laid-cons}
 use Rattle.build.specs.Buffers.{withCell, readOnto, held, laid, zuniqOf, valueOf}
-use Rattle.build.specs.Standing.{Stands}
+use Rattle.build.specs.Standing.{Stands, Behind}
+
+-- ---- what stays
+module _ {A : Type 0} where
+  -- A store before place n leaves what is behind it.
+  pub behind-set : (n i : ℕ) (zs : List ℕ) (vs : List A) (z : ℕ) (x : A) → i < n → Behind n zs vs (set zs i z) (set vs i x)
+  behind-set n i zs vs z x p = record { zuniqs = drop-set-lt n zs i z p; values = drop-set-lt n vs i x p }
+
+  pub behind-same : (n : ℕ) (zs : List ℕ) (vs : List A) → Behind n zs vs zs vs
+  behind-same n zs vs = record { zuniqs = refl; values = refl }
+
+  pub behind-trans : {n : ℕ} {zs : List ℕ} {vs : List A} {zs′ : List ℕ} {vs′ : List A} {zs″ : List ℕ} {vs″ : List A}
+      → Behind n zs′ vs′ zs″ vs″ → Behind n zs vs zs′ vs′ → Behind n zs vs zs″ vs″
+  behind-trans b c = record { zuniqs = b .zuniqs ∙ c .zuniqs; values = b .values ∙ c .values }
 
 module _ {A : Type 0} (K : ℕ) where
   -- One more zuniq with its value is one more entry on top.
@@ -91,6 +104,7 @@ module _ {A : Type 0} (K : ℕ) where
     pub top : IsZuniqOf K (getD zs′ (n + 1 - 1) 0) d h
     pub value : (u : A) → getD vs′ (n + 1 - 1) u ≡ x
     pub map-is : held K (n + 1) zs′ vs′ ≡ entry d h x ∷ held K n zs vs
+    pub behind : Behind (n + 1) zs vs zs′ vs′
 
   pub stored : {n z d h : ℕ} {x : A} {zs : List ℕ} {vs : List A} {zs′ : List ℕ} {vs′ : List A} → Stands K n zs vs → n < length zs → n < length vs → IsZuniqOf K z d h
       → (zs′ ≡ set zs n z) × (vs′ ≡ set vs n x) → Stored n z d h x zs vs zs′ vs′
@@ -102,6 +116,7 @@ module _ {A : Type 0} (K : ℕ) where
         top = rw (i, getD-set-same zs n z 0 p) v;
         value = λ u. rw i (getD-set-same vs n x u q);
         map-is = rw (add-one n) (held-set n zs vs z d h x p q v);
+        behind = behind-set (n + 1) n zs vs z x (omega arith);
       })
 
 -- An entry put at the front of the free part, from place n on, is stored at place n.

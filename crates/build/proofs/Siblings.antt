@@ -16,7 +16,7 @@ use Rattle.build.specs.Map.{Entry, entry, Merger}
 use Rattle.build.specs.Stack.{step, collapse, run}
 use Rattle.build.specs.Buffers.{held}
 use Rattle.build.specs.Standing.{Stands, Rising, siblingsFrom, siblings, Collapsed, Pushed, Added}
-use Rattle.build.proofs.Places.{Stored, stored}
+use Rattle.build.proofs.Places.{Stored, stored, behind-trans}
 use Rattle.build.proofs.Steps.{quad, Stepped, stepped, step-is, step-quad, collapse-stops, collapse-steps}
 
 -- A hash fits 64 bits, and so do those of its siblings.
@@ -126,11 +126,11 @@ module _ {A : Type 0} {accept : Merger A} {K n d h : ℕ} {zs : List ℕ} {vs : 
   module _ {z : ℕ} {x : A} {zs′ : List ℕ} {vs′ : List A} (s : Stored K n z d h x zs vs zs′ vs′) where
     -- A cell that is stored is pushed, if it is no fourth child,
     pub no-fourth-pushed : (h % 4 ≡ 3 → ⊥) → Pushed accept K n (entry d h x) zs vs (n + 1) zs′ vs′
-    no-fourth-pushed f = record { stands = s .stands; least = omega arith; is = s .map-is ∙ sym (collapse-no-fourth accept (entry d h x) (held K n zs vs) f) }
+    no-fourth-pushed f = record { stands = s .stands; least = omega arith; is = s .map-is ∙ sym (collapse-no-fourth accept (entry d h x) (held K n zs vs) f); behind = s .behind }
 
     -- or else once the map is collapsed.
     pub collapsed-pushed : {r : ℕ} {zs″ : List ℕ} {vs″ : List A} → Collapsed accept K (n + 1) zs′ vs′ r zs″ vs″ → Pushed accept K n (entry d h x) zs vs r zs″ vs″
-    collapsed-pushed w = record { stands = w .stands; least = w .least; is = w .is ∙ ap (collapse accept) (s .map-is) }
+    collapsed-pushed w = record { stands = w .stands; least = w .least; is = w .is ∙ ap (collapse accept) (s .map-is); behind = behind-trans (w .behind) (s .behind) }
 
   module _ {a b c e : A} (p : 0 < d) (q : h % 4 ≡ 0) where
     -- Four siblings that the merger keeps are added by appending them,

@@ -11,8 +11,9 @@ use Rattle.merger.specs.Merge.{acceptCounts}
 use Rattle.merger.proofs.Accept.{accept-counts-iff-merged, reject-counts-iff-kept, accepted-count-is-sum}
 use Rattle.build.specs.Stack.{collapse}
 use Rattle.build.specs.Buffers.{held}
-use Rattle.build.specs.Standing.{quadAt}
+use Rattle.build.specs.Standing.{quadAt, Behind}
 use Rattle.build.specs.Counts.{totalOf}
+use Rattle.build.proofs.Places.{behind-set, behind-same, behind-trans}
 use Rattle.build.proofs.Collapsing.{Turning, turning-starts, turning-ends, no-quad-ends, kept-ends, four-left, turns, parent-zuniq, four-within, turn-total}
 use Rattle.build_counts.proofs.collapse.Statement.{statement}
 use Rattle.build_counts.proofs.collapse.Tie as tie
@@ -21,7 +22,7 @@ abbrev Inv-loop : tie.InvT-loop
 Inv-loop zuniqs₀ counts₀ len last-depth last-hash last-count depth-threshold chi2-threshold n₀ depth₀ hash₀ count₀ zuniqs counts n depth hash count =
     let accept = acceptCounts depth-threshold chi2-threshold in
     (n ≤ len) × (length zuniqs ≡ length zuniqs₀) × (length counts ≡ length counts₀)
-    × Turning accept 29 0 (collapse accept (held 29 len zuniqs₀ counts₀)) n depth hash count zuniqs counts × (totalOf (held 29 n zuniqs counts) ≤ 4294967295)
+    × Turning accept 29 0 (collapse accept (held 29 len zuniqs₀ counts₀)) n depth hash count zuniqs counts × (totalOf (held 29 n zuniqs counts) ≤ 4294967295) × Behind len zuniqs₀ counts₀ zuniqs counts
 
 abbrev μ-loop : tie.MeasureT-loop
 μ-loop zuniqs₀ counts₀ len last-depth last-hash last-count depth-threshold chi2-threshold n₀ depth₀ hash₀ count₀ zuniqs counts n depth hash count = depth
@@ -61,7 +62,7 @@ merged c =
 
 -- ---- the answers
 loop-holds : tie.Need-loop-holds Inv-loop μ-loop
-loop-holds c = let p = c .before .before .pre in (omega arith, refl, refl, turning-starts (c .before .before .args .len) (p .1) (p .0) (p .2) (p .3), p .4)
+loop-holds c = let p = c .before .before .pre in (omega arith, refl, refl, turning-starts (c .before .before .args .len) (p .1) (p .0) (p .2) (p .3), p .4, behind-same _ _ _)
 
 are-siblings-requires : tie.Need-are-siblings-requires Inv-loop μ-loop
 are-siblings-requires c κs = let w = c .before .before .loop .inv .3 in (w .stands .zuniqs, w .top)
@@ -79,6 +80,7 @@ returns c =
       stands = o .inv .3 .stands;
       least = o .inv .0;
       is = no-quad-ends (o .inv .3) (deep (c .before .before .before)) (sym (c .before .are-siblings .ensures) ∙ not-true _ (c .if1 .taken));
+      behind = o .inv .5;
     }
 
 sub-depth : tie.Need-sub-depth Inv-loop μ-loop
@@ -110,7 +112,7 @@ returns-2 c =
     let kept =
     reject-counts-iff-kept (a .depth-threshold) (a .chi2-threshold) (o .depth - 1) (o .hash / 4) (getD (o .counts) (o .n - 4) 0) (getD (o .counts) (o .n - 3) 0) (getD (o .counts) (o .n - 2) 0) (o .count) .1
     (_, sym (c .before .before .merge-last .ensures) ∙ c .enum-told .given .1) in
-    record { stands = o .inv .3 .stands; least = o .inv .0; is = kept-ends (o .inv .3) (deep (e .before .before .before)) (quad e) kept }
+    record { stands = o .inv .3 .stands; least = o .inv .0; is = kept-ends (o .inv .3) (deep (e .before .before .before)) (quad e) kept; behind = o .inv .5 }
 
 sub-first : tie.Need-sub-first Inv-loop μ-loop
 sub-first c = omega (arith, room (found (c .before)))
@@ -151,6 +153,7 @@ loop-again c =
       turns (o .inv .3) (deep (e .before .before .before)) z (quad e) m,
       let a = start (turn e) .args in
           omega (arith, turn-total (λ n. n) (o .inv .3) (quad e) (accepted-count-is-sum (a .depth-threshold) (a .chi2-threshold)) (deep (e .before .before .before)) z m, o .inv .4),
+      behind-trans (behind-set _ (o .n - 4) (o .zuniqs) (o .counts) _ _ (omega (arith, room e, o .inv .0))) (o .inv .5),
     )
 
 same-length-5 : tie.Need-same-length-5 Inv-loop μ-loop
@@ -160,7 +163,7 @@ same-length-6 : tie.Need-same-length-6 Inv-loop μ-loop
 same-length-6 c = c .before .loop .inv .2
 
 returns-3 : tie.Need-returns-3 Inv-loop μ-loop
-returns-3 c = let o = c .before .loop in record { stands = o .inv .3 .stands; least = o .inv .0; is = turning-ends (o .inv .3) (omega arith) }
+returns-3 c = let o = c .before .loop in record { stands = o .inv .3 .stands; least = o .inv .0; is = turning-ends (o .inv .3) (omega arith); behind = o .inv .5 }
 
 pub collapse-spec : {M : Type 1} → statement M
 collapse-spec =

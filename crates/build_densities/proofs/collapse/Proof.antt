@@ -12,7 +12,8 @@ use Rattle.merger.specs.Merge.{acceptDensities}
 use Rattle.merger.proofs.Accept.{accept-densities-iff-merged, reject-densities-iff-kept}
 use Rattle.build.specs.Stack.{collapse}
 use Rattle.build.specs.Buffers.{held}
-use Rattle.build.specs.Standing.{quadAt}
+use Rattle.build.specs.Standing.{quadAt, Behind}
+use Rattle.build.proofs.Places.{behind-set, behind-same, behind-trans}
 use Rattle.build.proofs.Collapsing.{Turning, turning-starts, turning-ends, no-quad-ends, kept-ends, four-left, turns, parent-zuniq}
 use Rattle.build_densities.proofs.collapse.Statement.{statement}
 use Rattle.build_densities.proofs.collapse.Tie as tie
@@ -22,6 +23,7 @@ Inv-loop zuniqs₀ densities₀ len last-depth last-hash last-density depth-thre
     let accept = acceptDensities depth-threshold chi2-threshold in
     (n ≤ len) × (length zuniqs ≡ length zuniqs₀) × (length densities ≡ length densities₀)
     × Turning accept 29 nan (collapse accept (held 29 len zuniqs₀ densities₀)) n depth hash density zuniqs densities
+    × Behind len zuniqs₀ densities₀ zuniqs densities
 
 abbrev μ-loop : tie.MeasureT-loop
 μ-loop zuniqs₀ densities₀ len last-depth last-hash last-density depth-threshold chi2-threshold n₀ depth₀ hash₀ density₀ zuniqs densities n depth hash density = depth
@@ -61,7 +63,7 @@ merged c =
 
 -- ---- the answers
 loop-holds : tie.Need-loop-holds Inv-loop μ-loop
-loop-holds c = let p = c .before .before .pre in (omega arith, refl, refl, turning-starts (c .before .before .args .len) (p .1) (p .0) (p .2) (p .3))
+loop-holds c = let p = c .before .before .pre in (omega arith, refl, refl, turning-starts (c .before .before .args .len) (p .1) (p .0) (p .2) (p .3), behind-same _ _ _)
 
 are-siblings-requires : tie.Need-are-siblings-requires Inv-loop μ-loop
 are-siblings-requires c κs = let w = c .before .before .loop .inv .3 in (w .stands .zuniqs, w .top)
@@ -79,6 +81,7 @@ returns c =
       stands = o .inv .3 .stands;
       least = o .inv .0;
       is = no-quad-ends (o .inv .3) (deep (c .before .before .before)) (sym (c .before .are-siblings .ensures) ∙ not-true _ (c .if1 .taken));
+      behind = o .inv .4;
     }
 
 sub-depth : tie.Need-sub-depth Inv-loop μ-loop
@@ -107,7 +110,7 @@ returns-2 c =
     let kept =
     reject-densities-iff-kept (a .depth-threshold) (a .chi2-threshold) (o .depth - 1) (o .hash / 4) (getD (o .densities) (o .n - 4) nan) (getD (o .densities) (o .n - 3) nan) (getD (o .densities) (o .n - 2) nan) (o .density) .1
     (_, sym (c .before .before .merge-last .ensures) ∙ c .enum-told .given .1) in
-    record { stands = o .inv .3 .stands; least = o .inv .0; is = kept-ends (o .inv .3) (deep (e .before .before .before)) (quad e) kept }
+    record { stands = o .inv .3 .stands; least = o .inv .0; is = kept-ends (o .inv .3) (deep (e .before .before .before)) (quad e) kept; behind = o .inv .4 }
 
 enum-known-mean : tie.Need-enum-known-mean Inv-loop μ-loop
 enum-known-mean c = search needs
@@ -145,7 +148,7 @@ loop-again c =
     let e = found (c .before .before) in
     let o = turn e .loop in
     let z = c .to-zuniq-unchecked .ensures in
-    (omega (arith, room e, o .inv .0), length-set (o .zuniqs) (o .n - 4) _ ∙ o .inv .1, length-set (o .densities) (o .n - 4) _ ∙ o .inv .2, turns (o .inv .3) (deep (e .before .before .before)) z (quad e) m)
+    (omega (arith, room e, o .inv .0), length-set (o .zuniqs) (o .n - 4) _ ∙ o .inv .1, length-set (o .densities) (o .n - 4) _ ∙ o .inv .2, turns (o .inv .3) (deep (e .before .before .before)) z (quad e) m, behind-trans (behind-set _ (o .n - 4) (o .zuniqs) (o .densities) _ _ (omega (arith, room e, o .inv .0))) (o .inv .4))
 
 same-length-5 : tie.Need-same-length-5 Inv-loop μ-loop
 same-length-5 c = c .before .loop .inv .1
@@ -154,7 +157,7 @@ same-length-6 : tie.Need-same-length-6 Inv-loop μ-loop
 same-length-6 c = c .before .loop .inv .2
 
 returns-3 : tie.Need-returns-3 Inv-loop μ-loop
-returns-3 c = let o = c .before .loop in record { stands = o .inv .3 .stands; least = o .inv .0; is = turning-ends (o .inv .3) (omega arith) }
+returns-3 c = let o = c .before .loop in record { stands = o .inv .3 .stands; least = o .inv .0; is = turning-ends (o .inv .3) (omega arith); behind = o .inv .4 }
 
 pub collapse-spec : {M : Type 1} → statement M
 collapse-spec =
