@@ -38,10 +38,10 @@ loop-less : tie.Need-loop-less Inv-loop μ-loop
 loop-less c = omega arith
 
 loop-again : tie.Need-loop-again Inv-loop μ-loop
-loop-again c = found-from (c .before .before .before .before .loop .inv) (c .before .before .before .loop-test .taken) (sym (c .before .is-overlapped .ensures) ∙ not-false _ (c .if1 .left))
+loop-again c = found-from (c .before .before .before .before .loop .inv) (omega (arith, c .before .before .before .loop-test .taken)) (sym (c .before .is-overlapped .ensures) ∙ not-false _ (c .if1 .left))
 
 returns-2 : tie.Need-returns-2 Inv-loop μ-loop
-returns-2 c = ends-with-all (c .before .loop .inv) (c .loop-test .left)
+returns-2 c = ends-with-all (c .before .loop .inv) (omega (arith, c .loop-test .left))
 
 pub run-end-spec : {M : Type 1} → statement M
 run-end-spec =

@@ -2,6 +2,7 @@
 -- is carried along with its end. The measure is what is left of the length. Assumes nothing.
 use mathlib.Core.Path.{refl, sym, _∙_}
 use Prim.Native.Nat.{_-_}
+use native.Mathlib.Omega.{arith}
 use lib.ListN.{length}
 use borrow.Author.Needs.{needs}
 use Rattle.mom.proofs.Ranges.{has-range}
@@ -36,14 +37,14 @@ enum-told c = search needs
 returns : tie.Need-returns Inv-loop μ-loop
 returns c =
     let turn = c .before .before .before .before in
-    sym (not-zuniq-here (turn .before .loop .inv) (turn .loop-test .taken) refl (sym (c .before .before .range-of .ensures) ∙ c .enum-told .given .1))
+    sym (not-zuniq-here (turn .before .loop .inv) (omega (arith, turn .loop-test .taken)) refl (sym (c .before .before .range-of .ensures) ∙ c .enum-told .given .1))
 
 returns-2 : tie.Need-returns-2 Inv-loop μ-loop
 returns-2 c =
     let entry = c .before .before .before in
     let turn = entry .before .before .before .before in
     let range = has-range 29 _ _ (sym (entry .before .before .range-of .ensures) ∙ entry .range .given .1) in
-    sym (too-deep-here (turn .before .loop .inv) (turn .loop-test .taken) refl range (c .if1 .taken))
+    sym (too-deep-here (turn .before .loop .inv) (omega (arith, turn .loop-test .taken)) refl range (c .if1 .taken))
 
 returns-3 : tie.Need-returns-3 Inv-loop μ-loop
 returns-3 c =
@@ -51,7 +52,7 @@ returns-3 c =
     let entry = deep .before .before .before in
     let turn = entry .before .before .before .before in
     let range = has-range 29 _ _ (sym (entry .before .before .range-of .ensures) ∙ entry .range .given .1) in
-    sym (not-above-here (turn .before .loop .inv) (turn .loop-test .taken) refl range (deep .if1 .left) (c .before .if2 .taken) (c .if3 .taken))
+    sym (not-above-here (turn .before .loop .inv) (omega (arith, turn .loop-test .taken)) refl range (deep .if1 .left) (c .before .if2 .taken) (c .if3 .taken))
 
 returns-4 : tie.Need-returns-4 Inv-loop μ-loop
 returns-4 c =
@@ -59,7 +60,7 @@ returns-4 c =
     let entry = deep .before .before .before in
     let turn = entry .before .before .before .before in
     let range = has-range 29 _ _ (sym (entry .before .before .range-of .ensures) ∙ entry .range .given .1) in
-    sym (overlapping-here (turn .before .loop .inv) (turn .loop-test .taken) refl range (deep .if1 .left) (c .before .if2 .taken) (c .if3 .left))
+    sym (overlapping-here (turn .before .loop .inv) (omega (arith, turn .loop-test .taken)) refl range (deep .if1 .left) (c .before .if2 .taken) (c .if3 .left))
 
 add-i : tie.Need-add-i Inv-loop μ-loop
 add-i c = search needs
@@ -73,10 +74,10 @@ loop-again c =
     let entry = deep .before .before .before in
     let turn = entry .before .before .before .before in
     let range = has-range 29 _ _ (sym (entry .before .before .range-of .ensures) ∙ entry .range .given .1) in
-    passed-on (turn .before .loop .inv) (turn .loop-test .taken) refl range (deep .if1 .left) (c .if2 .left)
+    passed-on (turn .before .loop .inv) (omega (arith, turn .loop-test .taken)) refl range (deep .if1 .left) (c .if2 .left)
 
 returns-5 : tie.Need-returns-5 Inv-loop μ-loop
-returns-5 c = sym (passed-all (c .before .loop .inv) (c .loop-test .left))
+returns-5 c = sym (passed-all (c .before .loop .inv) (omega (arith, c .loop-test .left)))
 
 pub first-fault-spec : {M : Type 1} → statement M
 first-fault-spec =
