@@ -28,13 +28,13 @@ abbrev μ-loop : tie.MeasureT-loop
 μ-loop zuniqs₀ counts₀ len last-depth last-hash last-count depth-threshold chi2-threshold n₀ depth₀ hash₀ count₀ zuniqs counts n depth hash count = depth
 
 -- ---- a turn
+abbrev start : tie.At-loop Inv-loop μ-loop → tie.Start Inv-loop μ-loop
+start c = c .before .before .before
+
 deep : (c : tie.In-loop Inv-loop μ-loop) → 0 < c .before .loop .depth
 deep c = omega (arith, c .loop-test .taken)
 
 -- in which four siblings are found
-abbrev start : tie.At-loop Inv-loop μ-loop → tie.Start Inv-loop μ-loop
-start c = c .before .before .before
-
 abbrev turn : tie.Else1 Inv-loop μ-loop → tie.At-loop Inv-loop μ-loop
 turn c = c .before .before .before .before
 
