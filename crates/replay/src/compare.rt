@@ -1,9 +1,10 @@
 // Compares the numbers of a line, the arguments of a call and the stored answer behind them, with what
 // the call answers.
-use lines::answer::Answer;
-use lines::answer::Said;
-use lines::kind::Kind;
-use lines::line::MOST;
+use crate::answer::Answer;
+use crate::answer::Said;
+use crate::call::call;
+use crate::kind::Kind;
+use crate::line::MOST;
 
 // How a line fares. A refusal is a difference, whatever is stored: the original refuses nothing.
 pub enum Outcome {
@@ -13,7 +14,7 @@ pub enum Outcome {
 }
 
 pub(crate) fn line(kind: Kind, numbers: &[u64]) -> Outcome {
-    let answer = calls::call(kind, numbers);
+    let answer = call(kind, numbers);
     let said = answer.said;
     match said {
         Said::Unreadable => Outcome::Unreadable,

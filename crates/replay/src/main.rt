@@ -1,26 +1,55 @@
-// Replays a sample of the oracle's answers: reads it from standard input, asks our library the same
-// and prints how many answers are the same, for each kind of call and in all, and the number of the
-// first line that is different or unreadable.
+// Makes the library's calls that lines of text ask for: the scope's cases, printed with their answers,
+// and a sample of the oracle's answers, which ours are compared with. It reads the lines from standard
+// input and prints at the end how many answers are the same, for each kind of call and in all, and the
+// number of the first line that is different or unreadable.
 //
-// A line is a call as `calls` reads it, with its arguments, and behind them the numbers that the
-// original Rust answered; `calls` sets out both for each kind.
+// A line is a call: its name and decimal numbers, parted by one space. `call` sets out the numbers of
+// each kind. A number with a point and one digit, as 3.5, is an f64 and stands for its pattern.
+//
+// - A line that is empty or begins with # is printed as it is.
+// - A line that begins with a question mark and a space asks for a call by its arguments. It is printed
+//   with the answer: the values, `none`, what the merger or the check said, or `refused,number,place`. An
+//   f64 in tenths is printed so, any other as its pattern.
+//
+//     ? chi2_count_merger 0 0 3.0 1 2 4 4  ->  chi2_count_merger 0 0 3.0 1 2 4 4 = kept 3.0
+//
+// - Any other has the numbers that the original Rust answered behind the arguments.
 //
 // Unreadable is a line with an unknown word or a foreign byte, with an argument too few or too large
 // for its field, or without LF. An input of 262,144 bytes or more is not replayed at all.
 ghost use Prim.Native.Nat.{_≤_};
 ghost use lib.ListN.{length};
 
+mod answer;
+mod arguments;
+mod building;
+mod call;
+mod cells;
+mod combining;
 mod compare;
+mod densities;
+mod floats;
+mod kind;
+mod line;
+mod maps;
+mod mergers;
+mod overlapped;
+mod print;
+mod reading;
 mod tally;
+mod writing;
 
+use answer::Answer;
+use call::call;
+use kind::Named;
 use libc::STDIN_FILENO;
 use libc::STDOUT_FILENO;
-use lines::kind::Named;
-use lines::line::find;
-use lines::line::read;
+use line::find;
+use line::read;
+use print::print_answer;
 use tally::Tally;
 
-// The sample has some 160,000 bytes.
+// The input has some 180,000 bytes.
 const MAX_INPUT: usize = 262_144;
 
 fn main() {
@@ -57,7 +86,53 @@ fn with_line(tally: Tally, number: u64, text: &[u8], at: usize, end: usize) -> T
     if end == text.len() {
         return tally.with_unreadable(number);
     }
-    let line = read(&text[at..end]);
+    if at == end || text[at] == b'#' {
+        print_line(&text[at..end]);
+        return tally;
+    }
+    if text[at] == b'?' {
+        print_asked(&text[at..end]);
+        return tally;
+    }
+    with_stored(tally, number, &text[at..end])
+}
+
+fn print_line(line: &[u8]) {
+    io::write_all(STDOUT_FILENO, line);
+    io::write_all(STDOUT_FILENO, b"\n");
+}
+
+// The call behind the question mark, and its answer.
+fn print_asked(line: &[u8]) {
+    if line.len() < 2 {
+        print_line(line);
+        return;
+    }
+    io::write_all(STDOUT_FILENO, &line[2..]);
+    io::write_all(STDOUT_FILENO, b" = ");
+    print_answer(answer_to(&line[2..]));
+    io::write_all(STDOUT_FILENO, b"\n");
+}
+
+// The answer to a call that is asked for by its arguments alone.
+fn answer_to(text: &[u8]) -> Answer {
+    let line = read(text);
+    let named = line.named;
+    let Named::Kind(kind) = named else {
+        return Answer::unreadable();
+    };
+    let numbers = line.numbers;
+    let count = line.count;
+    let answer = call(kind, &numbers[..count]);
+    if answer.arguments != count {
+        return Answer::unreadable();
+    }
+    answer
+}
+
+// The tally with a line that has a stored answer.
+fn with_stored(tally: Tally, number: u64, text: &[u8]) -> Tally {
+    let line = read(text);
     let named = line.named;
     let Named::Kind(kind) = named else {
         return tally.with_unreadable(number);

@@ -1,8 +1,8 @@
 // How the lines fared, counted by kind, and printed.
 use crate::compare::Outcome;
+use crate::kind::KINDS;
+use crate::kind::Kind;
 use libc::STDOUT_FILENO;
-use lines::kind::KINDS;
-use lines::kind::Kind;
 
 pub struct Tally {
     // For each kind, at its place.

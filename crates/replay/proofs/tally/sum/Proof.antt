@@ -1,7 +1,7 @@
 -- `tally::sum` is safe and ends: the places left are the measure. Assumes nothing.
 use Prim.Native.Nat.{_-_}
 use borrow.Author.Needs.{needs}
-use Rattle.lines.specs.Kinds.{kinds}
+use Rattle.replay.specs.Kinds.{kinds}
 use Rattle.replay.proofs.tally.sum.Statement.{statement}
 use Rattle.replay.proofs.tally.sum.Tie as tie
 

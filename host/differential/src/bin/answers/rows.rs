@@ -20,8 +20,9 @@ pub fn print(random: &mut Random) {
         print_rows::<u64>(random);
     }
     for depth in 0..=DEPTH_MAX {
+        let any = random.bits() as u32;
         let edge = any_of(random, &[0, 2, 3, u32::MAX]);
-        for count in [1, random.bits() as u32, edge] {
+        for count in [1, any, edge] {
             let density = Float(run::density::<u64>(count, depth));
             let line = Line::new("density_of_count").with(depth).with(count);
             line.with(density).print();

@@ -1,6 +1,6 @@
 -- `Tally::print_kinds` is safe and ends: the kinds left are the measure. Assumes nothing.
 use Prim.Native.Nat.{_-_}
-use Rattle.lines.specs.Kinds.{kinds}
+use Rattle.replay.specs.Kinds.{kinds}
 use borrow.Author.Needs.{needs}
 use Rattle.replay.proofs.tally.Tally.print_kinds.Statement.{statement}
 use Rattle.replay.proofs.tally.Tally.print_kinds.Tie as tie

@@ -1,0 +1,183 @@
+// Section 4: building.
+use crate::answer::Answer;
+use crate::arguments::MAX_BYTE;
+use crate::arguments::MAX_COUNT;
+use crate::arguments::MAX_LONG;
+use crate::arguments::byte_of;
+use crate::arguments::counts_of;
+use crate::arguments::floats_of;
+use crate::arguments::list_at;
+use crate::arguments::place_of;
+use crate::floats::float_of;
+use build::counts::CountsAdded;
+use build::densities::DensitiesAdded;
+
+// D, M, T and the number held, in front of the four lists.
+struct Settings {
+    depth: u8,
+    depth_threshold: u8,
+    chi2_threshold: f64,
+    held: usize,
+}
+
+enum Read {
+    Settings(Settings),
+    Unreadable,
+}
+
+fn read_settings(numbers: &[u64]) -> Read {
+    if numbers.len() < 4 {
+        return Read::Unreadable;
+    }
+    if numbers[0] > MAX_BYTE || numbers[1] > MAX_BYTE {
+        return Read::Unreadable;
+    }
+    Read::Settings(Settings {
+        depth: byte_of(numbers[0]),
+        depth_threshold: byte_of(numbers[1]),
+        chi2_threshold: float_of(numbers[2]),
+        held: place_of(numbers[3]),
+    })
+}
+
+pub(crate) fn add_counts(numbers: &[u64]) -> Answer {
+    let Read::Settings(settings) = read_settings(numbers) else {
+        return Answer::unreadable();
+    };
+    let map = list_at(numbers, 4, MAX_LONG);
+    let map_counts = list_at(numbers, map.next, MAX_COUNT);
+    let cells = list_at(numbers, map_counts.next, MAX_LONG);
+    let cell_counts = list_at(numbers, cells.next, MAX_COUNT);
+    let end = cell_counts.next;
+    if end > numbers.len() {
+        return Answer::unreadable();
+    }
+    let mut zuniqs = map.items;
+    let places = map.len;
+    let map_values = counts_of(map_counts);
+    let mut counts = map_values.items;
+    let value_places = map_values.len;
+    let hashes = cells.items;
+    let n_hashes = cells.len;
+    let cell_values = counts_of(cell_counts);
+    let batch = cell_values.items;
+    let n_batch = cell_values.len;
+    add_counts_to(
+        settings,
+        &mut zuniqs[..places],
+        &mut counts[..value_places],
+        &hashes[..n_hashes],
+        &batch[..n_batch],
+        end,
+    )
+}
+
+fn add_counts_to(
+    settings: Settings,
+    zuniqs: &mut [u64],
+    counts: &mut [u32],
+    hashes: &[u64],
+    batch: &[u32],
+    arguments: usize,
+) -> Answer {
+    let added = build_counts::add_counts(
+        settings.depth,
+        settings.depth_threshold,
+        settings.chi2_threshold,
+        settings.held,
+        zuniqs,
+        counts,
+        hashes,
+        batch,
+    );
+    counts_added(added, zuniqs, counts, arguments)
+}
+
+// What adding or pooling counts answered, with both buffers as it left them.
+pub(crate) fn counts_added(
+    added: CountsAdded,
+    zuniqs: &[u64],
+    counts: &[u32],
+    arguments: usize,
+) -> Answer {
+    match added {
+        CountsAdded::Added { entries, total } => {
+            let answer = Answer::values(arguments)
+                .with(entries as u64)
+                .with_count(total);
+            answer.with_longs(zuniqs).with_counts(counts)
+        }
+        CountsAdded::Refused(refusal) => Answer::refused(refusal, arguments),
+    }
+}
+
+pub(crate) fn add_densities(numbers: &[u64]) -> Answer {
+    let Read::Settings(settings) = read_settings(numbers) else {
+        return Answer::unreadable();
+    };
+    let map = list_at(numbers, 4, MAX_LONG);
+    let map_densities = list_at(numbers, map.next, MAX_LONG);
+    let cells = list_at(numbers, map_densities.next, MAX_LONG);
+    let cell_densities = list_at(numbers, cells.next, MAX_LONG);
+    let end = cell_densities.next;
+    if end > numbers.len() {
+        return Answer::unreadable();
+    }
+    let mut zuniqs = map.items;
+    let places = map.len;
+    let map_values = floats_of(map_densities);
+    let mut densities = map_values.items;
+    let value_places = map_values.len;
+    let hashes = cells.items;
+    let n_hashes = cells.len;
+    let cell_values = floats_of(cell_densities);
+    let batch = cell_values.items;
+    let n_batch = cell_values.len;
+    add_densities_to(
+        settings,
+        &mut zuniqs[..places],
+        &mut densities[..value_places],
+        &hashes[..n_hashes],
+        &batch[..n_batch],
+        end,
+    )
+}
+
+fn add_densities_to(
+    settings: Settings,
+    zuniqs: &mut [u64],
+    densities: &mut [f64],
+    hashes: &[u64],
+    batch: &[f64],
+    arguments: usize,
+) -> Answer {
+    let added = build_densities::add_densities(
+        settings.depth,
+        settings.depth_threshold,
+        settings.chi2_threshold,
+        settings.held,
+        zuniqs,
+        densities,
+        hashes,
+        batch,
+    );
+    densities_added(added, zuniqs, densities, arguments)
+}
+
+// The same of adding or multiplying densities.
+pub(crate) fn densities_added(
+    added: DensitiesAdded,
+    zuniqs: &[u64],
+    densities: &[f64],
+    arguments: usize,
+) -> Answer {
+    match added {
+        DensitiesAdded::Added { entries } => {
+            let answer = Answer::values(arguments)
+                .with(entries as u64)
+                .with_longs(zuniqs);
+            answer.with_floats(densities)
+        }
+        DensitiesAdded::Refused(refusal) => Answer::refused(refusal, arguments),
+    }
+}

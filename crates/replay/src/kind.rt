@@ -1,0 +1,157 @@
+// The kinds of calls, and their words.
+//
+// A further kind is a case of `Kind` with its place and its word, one more in KINDS and in
+// specs/Kinds.antt, and a function that `call` hands its numbers to.
+ghost use Prim.Native.Nat.{_<_};
+ghost use Rattle.replay.specs.Kinds.{kinds};
+use crate::line::find;
+use libc::STDOUT_FILENO;
+
+pub enum Kind {
+    NHash,
+    ToZuniq,
+    FromZuniq,
+    AreOverlapping,
+    CountMerger,
+    DensityMerger,
+    CheckIsMom,
+    Containing,
+    Overlapped,
+    AddCounts,
+    AddDensities,
+    Pool,
+    Product,
+    ReadCountRows,
+    ReadDensityRows,
+    WriteCountRows,
+    WriteDensityRows,
+    DensityOfCount,
+    DensityOfPattern,
+    PatternOfDensity,
+}
+
+// What a word names.
+pub enum Named {
+    Kind(Kind),
+    Nothing,
+}
+
+pub const KINDS: usize = 20;
+
+impl Kind {
+    // The kind's place in an array with one for each kind.
+    pub(crate) fn place(self) -> usize
+        ensures { λ r. ⌜ r < kinds ⌝ }
+    {
+        match self {
+            Kind::NHash => 0,
+            Kind::ToZuniq => 1,
+            Kind::FromZuniq => 2,
+            Kind::AreOverlapping => 3,
+            Kind::CountMerger => 4,
+            Kind::DensityMerger => 5,
+            Kind::CheckIsMom => 6,
+            Kind::Containing => 7,
+            Kind::Overlapped => 8,
+            Kind::AddCounts => 9,
+            Kind::AddDensities => 10,
+            Kind::Pool => 11,
+            Kind::Product => 12,
+            Kind::ReadCountRows => 13,
+            Kind::ReadDensityRows => 14,
+            Kind::WriteCountRows => 15,
+            Kind::WriteDensityRows => 16,
+            Kind::DensityOfCount => 17,
+            Kind::DensityOfPattern => 18,
+            Kind::PatternOfDensity => 19,
+        }
+    }
+
+    // The kind at a place.
+    pub(crate) fn at(place: usize) -> Self {
+        match place {
+            0 => Kind::NHash,
+            1 => Kind::ToZuniq,
+            2 => Kind::FromZuniq,
+            3 => Kind::AreOverlapping,
+            4 => Kind::CountMerger,
+            5 => Kind::DensityMerger,
+            6 => Kind::CheckIsMom,
+            7 => Kind::Containing,
+            8 => Kind::Overlapped,
+            9 => Kind::AddCounts,
+            10 => Kind::AddDensities,
+            11 => Kind::Pool,
+            12 => Kind::Product,
+            13 => Kind::ReadCountRows,
+            14 => Kind::ReadDensityRows,
+            15 => Kind::WriteCountRows,
+            16 => Kind::WriteDensityRows,
+            17 => Kind::DensityOfCount,
+            18 => Kind::DensityOfPattern,
+            _ => Kind::PatternOfDensity,
+        }
+    }
+
+    // The kind's word, the call's name, filled up by spaces, of which no word has one.
+    fn word(self) -> [u8; 24] {
+        match self {
+            Kind::NHash => *b"n_hash                  ",
+            Kind::ToZuniq => *b"to_zuniq                ",
+            Kind::FromZuniq => *b"from_zuniq              ",
+            Kind::AreOverlapping => *b"are_overlapping         ",
+            Kind::CountMerger => *b"chi2_count_merger       ",
+            Kind::DensityMerger => *b"chi2_density_merger     ",
+            Kind::CheckIsMom => *b"check_is_mom            ",
+            Kind::Containing => *b"get_cell_containing     ",
+            Kind::Overlapped => *b"get_overlapped_cells    ",
+            Kind::AddCounts => *b"add_counts              ",
+            Kind::AddDensities => *b"add_densities           ",
+            Kind::Pool => *b"pool                    ",
+            Kind::Product => *b"product                 ",
+            Kind::ReadCountRows => *b"read_count_rows         ",
+            Kind::ReadDensityRows => *b"read_density_rows       ",
+            Kind::WriteCountRows => *b"write_count_rows        ",
+            Kind::WriteDensityRows => *b"write_density_rows      ",
+            Kind::DensityOfCount => *b"density_of_count        ",
+            Kind::DensityOfPattern => *b"density_of_pattern      ",
+            Kind::PatternOfDensity => *b"pattern_of_density      ",
+        }
+    }
+
+    fn has(self, word: &[u8]) -> bool {
+        let filled = self.word();
+        let end = find(&filled, 0, b' ');
+        is_same(word, &filled[..end])
+    }
+
+    // Writes the word to standard output.
+    pub(crate) fn print(self) {
+        let filled = self.word();
+        let end = find(&filled, 0, b' ');
+        io::write_all(STDOUT_FILENO, &filled[..end]);
+    }
+}
+
+// The kind that has this word.
+pub(crate) fn named_by(word: &[u8]) -> Named {
+    for i in 0..KINDS {
+        let kind = Kind::at(i);
+        if kind.has(word) {
+            return Named::Kind(kind);
+        }
+    }
+    Named::Nothing
+}
+
+fn is_same(a: &[u8], b: &[u8]) -> bool {
+    if a.len() != b.len() {
+        return false;
+    }
+    for i in 0..a.len() {
+        if a[i] != b[i] {
+            return false;
+        }
+    }
+    true
+}
