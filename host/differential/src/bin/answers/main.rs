@@ -1,7 +1,7 @@
 //! Prints the stored sample of the original's answers, which the replay program holds ours to where
 //! no Rust is at hand. A line is one call, its arguments and its answer: a word and decimal numbers,
 //! parted by one space. A list is its length and its items, a buffer the list that it holds, and an f64
-//! its 64-bit pattern. `crates/calls` sets out the numbers of each call.
+//! its 64-bit pattern. `crates/replay/src/call.rt` sets out the numbers of each call.
 //!
 //! The choice of arguments is fixed: small ones, and some that a fixed seed draws. Every answer is the
 //! original's, on arguments that no call of ours refuses; nothing here calls our library.
