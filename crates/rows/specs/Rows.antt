@@ -108,14 +108,6 @@ readAs (Rows.Refused r) t bytes = (Rows.Refused r, t)
 unfoldable pub readRows : List Column → List ℕ → Rows × List Column
 readRows t bytes = readAs (rowsToRead (rowSize t) (length bytes) (lengths t)) t bytes
 
--- the same of the zuniqs of count rows alone, for the check and lookup, which look at no count
-unfoldable pub readZuniqsAs : Rows → List ℕ → List ℕ → Rows × List ℕ
-readZuniqsAs (Rows.Rows n) zuniqs bytes = (Rows.Rows n, zuniqsOf bytes ++ drop n zuniqs)
-readZuniqsAs (Rows.Refused r) zuniqs bytes = (Rows.Refused r, zuniqs)
-
-unfoldable pub readZuniqs : List ℕ → List ℕ → Rows × List ℕ
-readZuniqs zuniqs bytes = readZuniqsAs (rowsToRead 12 (length bytes) (length zuniqs ∷ [])) zuniqs bytes
-
 -- the same for writing: the bytes past the rows stay
 unfoldable pub writeAs : Rows → List Column → List ℕ → Rows × List ℕ
 writeAs (Rows.Rows n) t bytes = (Rows.Rows n, rowsBytes t n ++ drop (n * rowSize t) bytes)

@@ -13,7 +13,7 @@
 // stays as it was.
 ghost use mathlib.Core.Path.{_≡_};
 ghost use lib.ListN.{getD};
-ghost use Rattle.rows.specs.Rows.{zuniqsOf, countRows, densityRows, readRows, readZuniqs, writeRows};
+ghost use Rattle.rows.specs.Rows.{zuniqsOf, countRows, densityRows, readRows, writeRows};
 use refusal::Refusal;
 
 mod little_endian;
@@ -51,19 +51,6 @@ pub fn read_count_rows(bytes: &[u8], zuniqs: &mut [u64], counts: &mut [u32]) -> 
     };
     read_u64_column(bytes, COUNT_ROW, 0, rows, zuniqs);
     read_u32_column(bytes, COUNT_ROW, VALUE, rows, counts);
-    answer
-}
-
-// The zuniqs of count rows, for callers who look at no count.
-pub fn read_zuniqs(bytes: &[u8], zuniqs: &mut [u64]) -> Rows
-    ensures { λ r. ⌜ (r, now (zuniqs .exit)) ≡ readZuniqs (now (zuniqs .entry)) (now (bytes .entry)) ⌝ }
-{
-    let places = zuniqs.len();
-    let answer = rows_to_read(COUNT_ROW, bytes.len(), places, places);
-    let Rows::Rows(rows) = answer else {
-        return answer;
-    };
-    read_u64_column(bytes, COUNT_ROW, 0, rows, zuniqs);
     answer
 }
 
