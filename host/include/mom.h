@@ -200,10 +200,10 @@ uint64_t mom_get_overlapped_cells_zuniqs(const uint64_t *zuniqs, size_t len, uin
 /* Adds cells of that depth, given by hashes and their counts in batch, to the map in the first held
  * places of zuniqs and counts. Each cell is appended; while the last four entries are the children
  * of one parent and the count merger accepts them under depth_threshold and chi2_threshold, they
- * are replaced by the parent. The value is the new number of entries and *total = the sum of their
- * counts; every place after the entries is 0. By a refusal both buffers and *total are left as they
- * were.
- * Refuses by 1: the depth is 0 or over 29; then by 2: depth_threshold is over 29; then by 3:
+ * are replaced by the parent; cells of depth 0 have none, and stay as they are. The value is the new
+ * number of entries and *total = the sum of their counts; every place after the entries is 0. By a
+ * refusal both buffers and *total are left as they were.
+ * Refuses by 1: the depth is over 29; then by 2: depth_threshold is over 29; then by 3:
  * chi2_threshold is a NaN; then by 4: zl isn't cl, hl isn't bl, or held is over zl; then by 5: the
  * held entries are no valid map of that depth, the place is the faulty entry; then, cell by cell,
  * by 7: its hash is N(depth) or more, and by 8: it isn't above the one before it, or the first

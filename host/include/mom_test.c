@@ -231,6 +231,38 @@ static void multiplying(void) {
            zuniqs[1] == 0 && densities[1] == 0, "a product of 6");
 }
 
+/* The twelve base cells have no parent: nothing is merged, in one call or in two, at any T. */
+static void base_cells(void) {
+    uint64_t zuniqs[13] = {5}, hashes[13];
+    uint32_t counts[13] = {5}, batch[13], total = 5;
+    double densities[13] = {5.5}, ones[13];
+    int kept = 1;
+
+    for (int i = 0; i < 13; i++) {
+        hashes[i] = (uint64_t)i;
+        batch[i] = 1;
+        ones[i] = 1;
+    }
+    expect(answers(mom_add_counts(0, 0, INFINITY, 0, zuniqs, 13, counts, 13, hashes, 13, batch, 13,
+                                  &total),
+                   MOM_HASH_OUT_OF_RANGE, 12) && total == 5 && zuniqs[0] == 5 && counts[0] == 5,
+           "adding a thirteenth base cell");
+    expect(answers(mom_add_counts(0, 0, INFINITY, 0, zuniqs, 13, counts, 13, hashes, 3, batch, 3,
+                                  &total),
+                   MOM_ACCEPTED, 3) && total == 3, "adding three base cells");
+    expect(answers(mom_add_counts(0, 0, INFINITY, 3, zuniqs, 13, counts, 13, hashes + 3, 9, batch,
+                                  9, &total),
+                   MOM_ACCEPTED, 12) && total == 12, "adding nine more");
+    for (int i = 0; i < 12; i++) {
+        kept = kept && zuniqs[i] == (2 * hashes[i] + 1) << 58 && counts[i] == 1;
+    }
+    expect(kept && zuniqs[12] == 0 && counts[12] == 0, "twelve base cells that stay");
+    expect(answers(mom_add_densities(0, 0, INFINITY, 0, zuniqs, 13, densities, 13, hashes, 12, ones,
+                                     12),
+                   MOM_ACCEPTED, 12) && zuniqs[3] == UINT64_C(7) << 58 && densities[11] == 1 &&
+           zuniqs[12] == 0 && densities[12] == 0, "adding the densities of twelve base cells");
+}
+
 int main(void) {
     uint64_t n_hash = 5, zuniq = 5, hash = 5;
     uint8_t depth = 5;
@@ -325,8 +357,8 @@ int main(void) {
     expect(answers(mom_get_overlapped_cells_zuniqs(map, 3, 5 * base, &number), MOM_ACCEPTED, 0) &&
            number == 0, "the entries in (0, 2)");
 
-    expect(answers(mom_add_counts(0, 0, 3.5, 0, zuniqs, 5, counts, 5, hashes, 4, batch, 4, &total),
-                   MOM_DEPTH_OUT_OF_RANGE, 0) && total == 5, "adding at depth 0");
+    expect(answers(mom_add_counts(30, 0, 3.5, 0, zuniqs, 5, counts, 5, hashes, 4, batch, 4, &total),
+                   MOM_DEPTH_OUT_OF_RANGE, 0) && total == 5, "adding at depth 30");
     expect(answers(mom_add_counts(1, 0, 3.5, 0, zuniqs, 5, counts, 4, hashes, 4, batch, 4, &total),
                    MOM_LENGTHS_DIFFER, 0) && total == 5, "adding to two lengths");
     expect(answers(mom_add_counts(1, 0, 3.5, 0, zuniqs, 3, counts, 3, hashes, 4, batch, 4, &total),
@@ -373,6 +405,7 @@ int main(void) {
                    MOM_ACCEPTED, 1) && zuniqs[0] == base && densities[0] == 16 && zuniqs[1] == 0 &&
            densities[3] == 0, "adding the fourth density");
 
+    base_cells();
     rows();
     maps_of_rows();
     pooling();

@@ -29,7 +29,6 @@ use Rattle.build.proofs.Filling.{sum-append}
 use Rattle.build.proofs.Checking.{or-else-none, grouped, settings-pass, lengths-pass, map-passes, space-passes, total-fits, cells-pass}
 
 pub record Accepted {A : Type 0} (bad : A → Bool) (D m places values : ℕ) (zs hs : List ℕ) (xs : List A) : Type 0 where
-  pub positive : 0 < D
   pub shallow : D ≤ 29
   pub paired : places ≡ values
   pub within : m ≤ places
@@ -43,11 +42,9 @@ pub accepted : {A : Type 0} (bad : A → Bool) (D M : ℕ) (T : Float) (m places
     → settingsRefusal D M T ≡ none → lengthsRefusal m places values (length hs) (length xs) ≡ none → mapRefusal (firstFault 29 D zs) ≡ none
     → cellsRefusal bad D (mapEnd 29 D zs) 0 hs xs ≡ none → spaceRefusal places m (length hs) ≡ none → Accepted bad D m places values zs hs xs
 accepted bad D M T m places values zs hs xs a b c d e =
-    let s = settings-pass D M T a in
     let l = lengths-pass m places values (length hs) (length xs) b in
     record {
-      positive = s .0;
-      shallow = s .1;
+      shallow = settings-pass D M T a;
       paired = l .0;
       within = l .1;
       batched = l .2;
@@ -80,7 +77,7 @@ unfolding heldRefusal
 held-passes D M T m places values zs hashes batch e =
     let a = or-else-none _ _ e in
     let l = lengths-pass m places values hashes batch (or-else-none _ _ (a .1) .0) in
-    record { shallow = settings-pass D M T (a .0) .1; paired = l .0; within = l .1; batched = l .2 }
+    record { shallow = settings-pass D M T (a .0); paired = l .0; within = l .1; batched = l .2 }
 
 -- The refusals of an add call are those five rows and then the others.
 pub counts-after-held : (D M : ℕ) (T : Float) (m places values : ℕ) (zs vs hs ns : List ℕ)
@@ -107,10 +104,10 @@ valid-stands K D m zs vs p q v = record {
 
 -- What is accepted may be pushed: the map stands, there is room for the batch, and its cells rise.
 pub may-push : {A : Type 0} {bad : A → Bool} {D m : ℕ} {zs : List ℕ} {vs : List A} {hs : List ℕ} {xs : List A} → Accepted bad D m (length zs) (length vs) (take m zs) hs xs
-    → (Stands 29 m zs vs × (0 < D) × (D ≤ 29) × (length hs ≡ length xs) × (m + length hs ≤ length zs) × (m + length hs ≤ length vs)) × Rising D hs
+    → (Stands 29 m zs vs × (D ≤ 29) × (length hs ≡ length xs) × (m + length hs ≤ length zs) × (m + length hs ≤ length vs)) × Rising D hs
 may-push {A} {bad} {D} {m} {zs} {vs} {hs} {xs} a =
     let stands = valid-stands 29 D m zs vs (a .within) (omega (arith, a .within, a .paired)) (a .valid) in
-    ((stands, a .positive, a .shallow, a .batched, a .room, omega (arith, a .room, a .paired)), cells-pass bad D (mapEnd 29 D (take m zs)) 0 hs xs (a .batched) (a .cells))
+    ((stands, a .shallow, a .batched, a .room, omega (arith, a .room, a .paired)), cells-pass bad D (mapEnd 29 D (take m zs)) 0 hs xs (a .batched) (a .cells))
 
 -- The total of a map is the sum of the counts in its places.
 pub held-total : (K m : ℕ) (zs vs : List ℕ) → Stands K m zs vs → totalOf (held K m zs vs) ≡ sumOf (take m vs)

@@ -40,7 +40,7 @@ module _ {A R X : Type 0} (g : Calls A R X) where
       → g .refusal (length s) zs vs (laid (zuniqOf (g .largest)) s) (laid valueOf s) c ≡ none → Fine (g .largest) (g .D) zs vs s (cells g c)
 
 -- The cells of a batch are at its depth.
-batch-depth : {A : Type 0} (D : ℕ) (hs : List ℕ) (vs : List A) (e : Entry A) → Has (batch D hs vs) e → e .depth ≡ D
+pub batch-depth : {A : Type 0} (D : ℕ) (hs : List ℕ) (vs : List A) (e : Entry A) → Has (batch D hs vs) e → e .depth ≡ D
 unfolding batch
 batch-depth D [] vs e m = absurd m
 batch-depth D (h ∷ hs) [] e m = absurd m

@@ -11,7 +11,7 @@ use lib.Dec.{eqb, leb, ltb}
 use lib.Ieee.{Float}
 use lib.ListN.{length, getD, drop, drop-of-length-le}
 use lib.Seq.{drop-cons}
-use borrow.Author.Tests.{leb-false, ltb-false, lt-ltb, le-ltb, eqb-true, eqb-false, not-false}
+use borrow.Author.Tests.{leb-false, ltb-false, lt-ltb, le-ltb, eqb-true, not-false}
 use Rattle.zuniq.specs.Cells.{nHash}
 use Rattle.refusal.specs.declared.Refusal.{Refusal}
 use Rattle.zuniq.proofs.Basics.{le-or-lt}
@@ -94,16 +94,9 @@ pub or-false-both : (a b : Bool) → (a || b) ≡ false → (a ≡ false) × (b 
 or-false-both true b e = absurd (true≢false e)
 or-false-both false b e = (refl, e)
 
-pub settings-pass : (D M : ℕ) (T : Float) → settingsRefusal D M T ≡ none → (0 < D) × (D ≤ 29)
+pub settings-pass : (D M : ℕ) (T : Float) → settingsRefusal D M T ≡ none → D ≤ 29
 unfolding settingsRefusal
-settings-pass D M T e =
-    let b = or-false-both (eqb D 0) (ltb 29 D) (refused-if-none _ _ (or-else-none _ _ e .0)) in
-    let n = eqb-false D 0 (b .0) in
-    (go D n, ltb-false 29 D (b .1))
-  where
-    go : (n : ℕ) → (n ≡ 0 → ⊥) → 0 < n
-    go zero k = absurd (k refl)
-    go (suc n) k = omega arith
+settings-pass D M T e = ltb-false 29 D (refused-if-none _ _ (or-else-none _ _ e .0))
 
 pub lengths-pass : (m zs vs hs batch : ℕ) → lengthsRefusal m zs vs hs batch ≡ none → (zs ≡ vs) × (m ≤ zs) × (hs ≡ batch)
 unfolding lengthsRefusal

@@ -23,3 +23,4 @@ pub mod Accepted
 pub mod DensityCalls
 pub mod Sound
 pub mod ValidMaps
+pub mod BaseCells

@@ -1,14 +1,14 @@
 -- Adding four siblings at once, for every type of values and every merger. Assumes nothing.
 use mathlib.Core.Path.{_≡_, refl, ap, sym, _∙_}
-use mathlib.Core.Bool.{true}
+use mathlib.Core.Bool.{true, _&&_}
 use mathlib.Core.List.{List, [], _∷_, reverseAux}
 use mathlib.Core.Option.{Option, none, some, Option·map}
 use Prim.Native.Nat.{ℕ, suc, _+_, _*_, _/_, _%_, _-_, _^_, _≤_, _<_}
 use native.Mathlib.Nat.{pow-le-pow-right}
 use native.Mathlib.Omega.{arith}
-use lib.Dec.{eqb, leb}
+use lib.Dec.{eqb, leb, ltb}
 use lib.ListN.{length, getD, set, length-set}
-use borrow.Author.Tests.{leb-true, eqb-true}
+use borrow.Author.Tests.{leb-true, ltb-true, eqb-true}
 use Rattle.zuniq.specs.Cells.{nHash}
 use Rattle.zuniq.specs.Codec.{zuniq, IsZuniqOf}
 use Rattle.zuniq.proofs.Basics.{and-is-true}
@@ -24,8 +24,9 @@ pub hash-fits : (d h : ℕ) → d ≤ 29 → h < nHash d → h + 3 < 2 ^ 64
 unfolding nHash
 hash-fits d h u v = let p : 4 ^ d ≤ 4 ^ 29 = pow-le-pow-right {n = 4} (omega arith) {i = d} {j = 29} u in omega arith
 
--- Where hashes rise, the first and the fourth tell four siblings.
+-- Where hashes rise, the first and the fourth tell four siblings, which have a parent.
 pub record AreSiblings (D : ℕ) (hs : List ℕ) (i : ℕ) : Type 0 where
+  pub deep : 0 < D
   pub within : i + 4 ≤ length hs
   pub first : getD hs i 0 % 4 ≡ 0
   pub second : getD hs (i + 1) 0 ≡ getD hs i 0 + 1
@@ -33,10 +34,11 @@ pub record AreSiblings (D : ℕ) (hs : List ℕ) (i : ℕ) : Type 0 where
   pub fourth : getD hs (i + 3) 0 ≡ getD hs i 0 + 3
   pub below : getD hs i 0 + 3 < nHash D
 
-pub siblings-from : (D : ℕ) (hs : List ℕ) (i : ℕ) → Rising D hs → i < length hs → siblingsFrom hs i ≡ true → AreSiblings D hs i
+pub siblings-from : (D : ℕ) (hs : List ℕ) (i : ℕ) → Rising D hs → i < length hs → (ltb 0 D && siblingsFrom hs i) ≡ true → AreSiblings D hs i
 unfolding siblingsFrom
 siblings-from D hs i r p e =
-    let e0 = and-is-true (leb 4 (length hs - i)) _ e in
+    let k = and-is-true (ltb 0 D) _ e in
+    let e0 = and-is-true (leb 4 (length hs - i)) _ (k .1) in
     let w = leb-true 4 (length hs - i) (e0 .0) in
     let h3 = eqb-true (getD hs (i + 3) 0) (4 * (getD hs i 0 / 4) + 3) (e0 .1) in
     let i2 : i + 1 + 1 ≡ i + 2 = omega arith in
@@ -45,7 +47,7 @@ siblings-from D hs i r p e =
     let a1 = rw i2 at (r .above (i + 1) (omega arith)) in
     let a2 = rw i3 at (r .above (i + 2) (omega arith)) in
     let b = r .below (i + 3) (omega arith) in
-    record { within = omega arith; first = omega arith; second = omega arith; third = omega arith; fourth = omega arith; below = omega arith }
+    record { deep = ltb-true 0 D (k .0); within = omega arith; first = omega arith; second = omega arith; third = omega arith; fourth = omega arith; below = omega arith }
 
 -- Four siblings put behind n entries, one after the other.
 pub siblings-stored : {A : Type 0} {K n : ℕ} {zs : List ℕ} {vs : List A} (d h : ℕ) (a b c e : A) → Stands K n zs vs → n + 4 ≤ length zs → n + 4 ≤ length vs → d ≤ K → h + 3 < nHash d

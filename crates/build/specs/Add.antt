@@ -26,10 +26,10 @@ abbrev pub checkOf : Option Refusal → Check
 checkOf none = Check.Passed
 checkOf (some r) = Check.Refused r
 
--- "1. The depth is over 29, or is 0 in an add call"; "2. M is over 29"; "3. T is NaN"
+-- "1. The depth is over 29"; "2. M is over 29"; "3. T is NaN". Of row 1 note 1 of 02: "Number 1 then no longer covers a depth of 0."
 unfoldable pub settingsRefusal : ℕ → ℕ → Float → Option Refusal
 settingsRefusal D M T =
-    orElse (refusedIf (eqb D 0 || ltb 29 D) Refusal.DepthOutOfRange)
+    orElse (refusedIf (ltb 29 D) Refusal.DepthOutOfRange)
     (orElse (refusedIf (ltb 29 M) Refusal.DepthThresholdOutOfRange)
     (refusedIf (isNan T) Refusal.Chi2ThresholdIsNan))
 

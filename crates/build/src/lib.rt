@@ -11,7 +11,9 @@
 // The calls are in `build_counts` and `build_densities`. Here are the definitions and laws of both,
 // their answers, and what they share: checks, siblings and the free part.
 ghost use mathlib.Core.Path.{_≡_};
+ghost use mathlib.Core.Bool.{_&&_};
 ghost use Prim.Native.Nat.{ℕ, _+_, _-_, _*_, _^_, _≤_, _<_};
+ghost use lib.Dec.{ltb};
 ghost use lib.ListN.{length, getD, take, replicate};
 ghost use Rattle.zuniq.specs.Codec.{IsZuniqOf};
 ghost use Rattle.mom.specs.Map.{firstFault, ValidMap};
@@ -71,9 +73,6 @@ pub fn check_held(
 fn check_settings(depth: u8, depth_threshold: u8, chi2_threshold: f64) -> Check
     ensures { λ r. ⌜ r ≡ checkOf (settingsRefusal depth «depth_threshold» «chi2_threshold») ⌝ }
 {
-    if depth == 0 {
-        return Check::Refused(Refusal::DepthOutOfRange);
-    }
     if depth > Zuniq64::MAX_DEPTH {
         return Check::Refused(Refusal::DepthOutOfRange);
     }
@@ -177,11 +176,15 @@ pub fn are_siblings(zuniqs: &[u64], n: usize, depth: u8, hash: u64) -> bool
     zuniqs[n - 4] == last - 3 * gap
 }
 
-// Whether the hashes from a place on are those of children 0 to 3 of one parent. Hashes that rise have
-// the fourth of them three places further on only if all four stand there: one comparison tells.
-pub fn are_next_siblings(hashes: &[u64], i: usize) -> bool
-    ensures { λ r. ⌜ r ≡ siblingsFrom (now (hashes .entry)) i ⌝ }
+// Whether the hashes of a depth, from a place on, are those of children 0 to 3 of one parent. Hashes that
+// rise have the fourth of them three places further on only if all four stand there: one comparison tells.
+// Base cells have no parent, though their hashes 0 to 3, 4 to 7 and 8 to 11 pass that test.
+pub fn are_next_siblings(depth: u8, hashes: &[u64], i: usize) -> bool
+    ensures { λ r. ⌜ r ≡ (ltb 0 depth && siblingsFrom (now (hashes .entry)) i) ⌝ }
 {
+    if depth == 0 {
+        return false;
+    }
     let len = hashes.len();
     if i > len {
         return false;

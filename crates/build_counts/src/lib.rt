@@ -148,7 +148,7 @@ fn push_all(
     depth_threshold: u8,
     chi2_threshold: f64,
 ) -> usize
-    requires { ⌜ Stands 29 held (now zuniqs) (now counts) × (0 < depth) × (depth ≤ 29) × (length (now hashes) ≡ length (now batch)) × (held + length (now hashes) ≤ length (now zuniqs)) × (held + length (now hashes) ≤ length (now counts)) ⌝ }
+    requires { ⌜ Stands 29 held (now zuniqs) (now counts) × (depth ≤ 29) × (length (now hashes) ≡ length (now batch)) × (held + length (now hashes) ≤ length (now zuniqs)) × (held + length (now hashes) ≤ length (now counts)) ⌝ }
     requires { ⌜ Rising depth (now hashes) ⌝ }
     requires { ⌜ totalOf (heldMap 29 held (now zuniqs) (now counts)) + sumOf (now batch) ≤ 4294967295 ⌝ }
     ensures { λ r. ⌜ Added (acceptCounts «depth_threshold» «chi2_threshold») 29 held (batchOf depth (now (hashes .entry)) (now (batch .entry))) (now (zuniqs .entry)) (now (counts .entry)) r (now (zuniqs .exit)) (now (counts .exit)) ⌝ }
@@ -157,7 +157,7 @@ fn push_all(
     let mut i = 0;
     while i < hashes.len() {
         let hash = hashes[i];
-        if are_next_siblings(hashes, i) {
+        if are_next_siblings(depth, hashes, i) {
             n = push_siblings(
                 zuniqs,
                 counts,

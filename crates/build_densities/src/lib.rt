@@ -140,16 +140,16 @@ fn push_all(
     depth_threshold: u8,
     chi2_threshold: f64,
 ) -> usize
-    requires { ⌜ Stands 29 held (now zuniqs) (now densities) × (0 < depth) × (depth ≤ 29) × (length (now hashes) ≡ length (now batch)) × (held + length (now hashes) ≤ length (now zuniqs)) × (held + length (now hashes) ≤ length (now densities)) ⌝ }
+    requires { ⌜ Stands 29 held (now zuniqs) (now densities) × (depth ≤ 29) × (length (now hashes) ≡ length (now batch)) × (held + length (now hashes) ≤ length (now zuniqs)) × (held + length (now hashes) ≤ length (now densities)) ⌝ }
     requires { ⌜ Rising depth (now hashes) ⌝ }
     ensures { λ r. ⌜ Added (acceptDensities «depth_threshold» «chi2_threshold») 29 held (batchOf depth (now (hashes .entry)) (now (batch .entry))) (now (zuniqs .entry)) (now (densities .entry)) r (now (zuniqs .exit)) (now (densities .exit)) ⌝ }
 {
-    let c = unit_density(depth - 1);
+    let c = unit_density_of_parents(depth);
     let mut n = held;
     let mut i = 0;
     while i < hashes.len() {
         let hash = hashes[i];
-        if are_next_siblings(hashes, i) {
+        if are_next_siblings(depth, hashes, i) {
             n = push_siblings(
                 zuniqs,
                 densities,
@@ -375,6 +375,17 @@ fn merge_last(
         densities[n - 2],
         last,
     )
+}
+
+// c for four siblings of a depth. Base cells have no parent, so that nobody asks.
+fn unit_density_of_parents(depth: u8) -> f64
+    requires { ⌜ depth ≤ 29 ⌝ }
+    ensures { λ r. ⌜ 0 < depth → r ≡ unitDensity (depth - 1) ⌝ }
+{
+    if depth == 0 {
+        return 0.0;
+    }
+    unit_density(depth - 1)
 }
 
 // c at a parent depth.

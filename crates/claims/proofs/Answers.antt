@@ -166,12 +166,12 @@ densities-told g (some r) b s = refl
 
 -- rows 1 to 3 of an add call
 module _ {X : Type 0} (D M : ℕ) (T : Float) (next : Told X) where
-  settings-rows : rowsOf (settingsRefusal D M T) next ≡ row 1 (eqb D 0 || ltb 29 D) (row 2 (ltb 29 M) (row 3 (isNan T) next))
+  settings-rows : rowsOf (settingsRefusal D M T) next ≡ row 1 (ltb 29 D) (row 2 (ltb 29 M) (row 3 (isNan T) next))
   unfolding settingsRefusal
   settings-rows =
-      in-order (refusedIf (eqb D 0 || ltb 29 D) Refusal.DepthOutOfRange) _ next
-      ∙ one-row (eqb D 0 || ltb 29 D) _ _
-      ∙ ap (row 1 (eqb D 0 || ltb 29 D)) (in-order (refusedIf (ltb 29 M) Refusal.DepthThresholdOutOfRange) _ next
+      in-order (refusedIf (ltb 29 D) Refusal.DepthOutOfRange) _ next
+      ∙ one-row (ltb 29 D) _ _
+      ∙ ap (row 1 (ltb 29 D)) (in-order (refusedIf (ltb 29 M) Refusal.DepthThresholdOutOfRange) _ next
       ∙ one-row (ltb 29 M) _ _
       ∙ ap (row 2 (ltb 29 M)) (one-row (isNan T) _ next))
 
@@ -181,7 +181,7 @@ module _ (D M : ℕ) (T : Float) (m : ℕ) (zs vs hs ns : List ℕ) where
   countsMade = run (acceptCounts M T) (held 29 m zs vs) (batch D hs ns)
 
   pub add-counts-tells : toldCounts (addCounts D M T m zs vs hs ns .0)
-      ≡ row 1 (eqb D 0 || ltb 29 D)
+      ≡ row 1 (ltb 29 D)
       (row 2 (ltb 29 M)
       (row 3 (isNan T)
       (row 4 (not (eqb (length zs) (length vs)) || (ltb (length zs) m || not (eqb (length hs) (length ns))))
@@ -195,7 +195,7 @@ module _ (D M : ℕ) (T : Float) (m : ℕ) (zs vs hs ns : List ℕ) where
       counts-told (countCalls D M T) (countsRefusal D M T m (length zs) (length vs) (take m zs) (take m vs) hs ns) _ countsMade
       ∙ in-order (settingsRefusal D M T) _ _
       ∙ settings-rows D M T _
-      ∙ ap (λ x. row 1 (eqb D 0 || ltb 29 D) (row 2 (ltb 29 M) (row 3 (isNan T) x)))
+      ∙ ap (λ x. row 1 (ltb 29 D) (row 2 (ltb 29 M) (row 3 (isNan T) x)))
       (in-order (lengthsRefusal m (length zs) (length vs) (length hs) (length ns)) _ _
       ∙ one-row (not (eqb (length zs) (length vs)) || (ltb (length zs) m || not (eqb (length hs) (length ns)))) _ _
       ∙ ap (row 4 (not (eqb (length zs) (length vs)) || (ltb (length zs) m || not (eqb (length hs) (length ns)))))
@@ -213,7 +213,7 @@ module _ (D M : ℕ) (T : Float) (m : ℕ) (zs : List ℕ) (vs : List Float) (hs
   densitiesMade = run (acceptDensities M T) (held 29 m zs vs) (batch D hs xs)
 
   pub add-densities-tells : toldDensities (addDensities D M T m zs vs hs xs .0)
-      ≡ row 1 (eqb D 0 || ltb 29 D)
+      ≡ row 1 (ltb 29 D)
       (row 2 (ltb 29 M)
       (row 3 (isNan T)
       (row 4 (not (eqb (length zs) (length vs)) || (ltb (length zs) m || not (eqb (length hs) (length xs))))
@@ -227,7 +227,7 @@ module _ (D M : ℕ) (T : Float) (m : ℕ) (zs : List ℕ) (vs : List Float) (hs
       densities-told (densityCalls D M T) (densitiesRefusal D M T m (length zs) (length vs) (take m zs) (take m vs) hs xs) _ densitiesMade
       ∙ in-order (settingsRefusal D M T) _ _
       ∙ settings-rows D M T _
-      ∙ ap (λ x. row 1 (eqb D 0 || ltb 29 D) (row 2 (ltb 29 M) (row 3 (isNan T) x)))
+      ∙ ap (λ x. row 1 (ltb 29 D) (row 2 (ltb 29 M) (row 3 (isNan T) x)))
       (in-order (lengthsRefusal m (length zs) (length vs) (length hs) (length xs)) _ _
       ∙ one-row (not (eqb (length zs) (length vs)) || (ltb (length zs) m || not (eqb (length hs) (length xs)))) _ _
       ∙ ap (row 4 (not (eqb (length zs) (length vs)) || (ltb (length zs) m || not (eqb (length hs) (length xs)))))

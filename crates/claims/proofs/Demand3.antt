@@ -31,6 +31,7 @@ use Rattle.build.proofs.DefinedMap.{defined-map-nil, defined-map-covers, define
 use Rattle.build.proofs.ValidMaps.{rising-is-valid}
 use Rattle.build.proofs.Calls.{calls-do-as-joined, joined-batches-rise, joined-map-rises, joined-map-stands, joined-batches-depth}
 use Rattle.build.proofs.Sound.{count-calls-sound}
+use Rattle.build.proofs.BaseCells.{base-cells-map}
 use Rattle.combine.specs.Rules.{definedPool}
 use Rattle.combine.specs.Slices.{entriesOf}
 use Rattle.combine.specs.Pool.{entries, mapsRefusal, poolRefusal, poolOver, poolCounts}
@@ -136,6 +137,11 @@ module _ (a : AddCalls) where
         settled = no-acceptable-quad-left accept (a .D) (joinedList a) rising;
         reported = report-is;
       }
+
+  -- At depth 0 the map is the accepted cells, joined.
+  pub base-cells-joined : a .D ≡ 0 → mapOf a ≡ joinedList a
+  base-cells-joined q =
+      base-cells-map (acceptCounts (a .M) (a .T)) (a .D) q (joinedList a) (λ e m. joined-batches-depth g (length (a .zuniqs)) (length (a .counts)) (a .batches) e m ∙ q) rising
 
   -- ---- the map that goes into a pool
   given-stands : (given a .zuniqs ≡ map (zuniqOf 29) (mapOf a)) × (given a .values ≡ map valueOf (mapOf a))

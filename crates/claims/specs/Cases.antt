@@ -1,4 +1,4 @@
--- The starred cases of the scope, as one joint table: each row is a test that is computed from the definitions that the
+-- The starred cases of the scope and those of the requests, as one joint table: each row is a test that is computed from the definitions that the
 -- contracts of the calls use, and all of them hold. Assumes nothing.
 use mathlib.Core.Path.{_≡_, refl}
 use mathlib.Core.Bool.{Bool, true, false, _&&_}
@@ -7,7 +7,7 @@ use Prim.Native.Nat.{ℕ, zero, suc, _+_, _-_}
 use lib.Dec.{eqb}
 use lib.IntN.{pos, negsuc}
 use lib.Ieee as Ieee
-use lib.Ieee.{Float, fin, isNan}
+use lib.Ieee.{Float, inf, fin, isNan}
 use Rattle.zuniq.specs.Cells.{nHash, liesIn, overlap}
 use Rattle.zuniq.specs.Codec.{zuniq, encode, hashAt, isZuniqAt, cellUpTo, decode}
 use Rattle.zuniq.specs.declared.Encoded.{Encoded}
@@ -152,7 +152,16 @@ section5 =
     ∷ isMap (definedPool (acceptCounts 0 3·5) 1 (entry 0 0 10 ∷ []) (entry 1 1 3 ∷ [])) (0 ∷ 0 ∷ 13 ∷ [])
     ∷ []
 
+-- ---- note 1 of 02
+pub note1 : List Bool
+unfolding isMap from times joined listed whole tops definedMap batch acceptCounts mergedCount mergeCounts chiOfCounts Ieee.add Ieee.sub Ieee.mul Ieee.div Ieee.ofInt Ieee.lt
+note1 =
+    -- "each cell stays as it is, since there is no parent": D=0, the twelve cells of count 1, T infinite
+    isMap (definedMap (acceptCounts 0 (inf false)) 0 (batch 0 (from 12 0) (times 12 1)))
+    (0 ∷ 0 ∷ 1 ∷ 0 ∷ 1 ∷ 1 ∷ 0 ∷ 2 ∷ 1 ∷ 0 ∷ 3 ∷ 1 ∷ 0 ∷ 4 ∷ 1 ∷ 0 ∷ 5 ∷ 1 ∷ 0 ∷ 6 ∷ 1 ∷ 0 ∷ 7 ∷ 1 ∷ 0 ∷ 8 ∷ 1 ∷ 0 ∷ 9 ∷ 1 ∷ 0 ∷ 10 ∷ 1 ∷ 0 ∷ 11 ∷ 1 ∷ [])
+    ∷ []
+
 -- ---- all of them
-pub starred-cases : every (section1 ++ (section2 ++ (section4 ++ section5))) ≡ true
-unfolding every section1 section2 section4 section5
+pub starred-cases : every (section1 ++ (section2 ++ (section4 ++ (section5 ++ note1)))) ≡ true
+unfolding every section1 section2 section4 section5 note1
 starred-cases = refl

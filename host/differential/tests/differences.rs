@@ -320,6 +320,15 @@ fn added(
     (answer, (zuniqs[0], counts[0]))
 }
 
+/// The entries that ours builds from one batch.
+fn ours_built((depth, m, t): (u8, u8, f64), cells: &[(u64, u32)]) -> Vec<(u64, u32)> {
+    let (hashes, batch): (Vec<u64>, Vec<u32>) = cells.iter().copied().unzip();
+    let (mut zuniqs, mut counts) = (vec![77; cells.len()], vec![77; cells.len()]);
+    let answer = mom::add_counts(depth, m, t, 0, &mut zuniqs, &mut counts, &hashes, &batch);
+    let entries = zuniqs.into_iter().zip(counts);
+    entries.take(answer.unwrap().entries).collect()
+}
+
 fn original_built((depth, m, t): (u8, u8, f64), cells: &[(u64, u32)]) -> Vec<(u64, u32)> {
     run::build_counts(depth, m, t, cells.iter().copied())
 }
@@ -333,13 +342,14 @@ fn assert_refused(setting: (u8, u8, f64), cells: &[(u64, u32)], number: u8, plac
 /// The original looks for parents at the depth before 0. Where that wraps, four cells are merged
 /// into one whose parent depth 255 is above every M.
 #[test]
-fn add_counts_refuses_depth_0() {
+fn add_counts_appends_base_cells() {
     assert_overflows(|| original_built((0, 0, 3.0), &[]), vec![]);
-    assert_refused((0, 0, 3.0), &[], 1, 0);
+    assert_eq!(ours_built((0, 0, 3.0), &[]), []);
     let cells = [(0, 2), (1, 2), (2, 2), (3, 2)];
     let setting = (0, 4, 3.0);
     assert_overflows(|| original_built(setting, &cells), vec![(1 << 60, 8)]);
-    assert_refused(setting, &cells, 1, 0);
+    let kept = cells.map(|(hash, count)| (run::to_zuniq(0, hash), count));
+    assert_eq!(ours_built(setting, &cells), kept);
 }
 
 /// The original appends what comes.
@@ -409,15 +419,26 @@ fn appended(cells: &[(u64, f64)]) -> Vec<(u64, u64)> {
         .collect()
 }
 
+/// The entries that ours builds from one batch, with the bits of their densities.
+fn our_densities((depth, m, t): (u8, u8, f64), cells: &[(u64, f64)]) -> Vec<(u64, u64)> {
+    let (hashes, batch): (Vec<u64>, Vec<f64>) = cells.iter().copied().unzip();
+    let (mut zuniqs, mut densities) = (vec![77; cells.len()], vec![77.0; cells.len()]);
+    let (z, d) = (&mut zuniqs, &mut densities);
+    let entries = mom::add_densities(depth, m, t, 0, z, d, &hashes, &batch).unwrap();
+    let bits = densities.into_iter().map(f64::to_bits);
+    zuniqs.into_iter().zip(bits).take(entries).collect()
+}
+
 /// Where the parent depth wraps to 255, the depth of the children wraps to 0 again.
 #[test]
-fn add_densities_refuses_depth_0() {
+fn add_densities_appends_base_cells() {
     assert_overflows(|| original_densities((0, 0, 3.0), &[]), vec![]);
-    assert_densities_refused((0, 0, 3.0), &[], 1, 0);
+    assert_eq!(our_densities((0, 0, 3.0), &[]), []);
     let cells = [(0, 2.0), (1, 2.0), (2, 2.0), (3, 2.0)];
     let merged = vec![(1 << 60, 2f64.to_bits())];
     assert_overflows(|| original_densities((0, 4, 3.0), &cells), merged);
-    assert_densities_refused((0, 4, 3.0), &cells, 1, 0);
+    let kept = cells.map(|(hash, density)| (run::to_zuniq(0, hash), density.to_bits()));
+    assert_eq!(our_densities((0, 4, 3.0), &cells), kept);
 }
 
 #[test]

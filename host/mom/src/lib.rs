@@ -204,15 +204,16 @@ pub fn density_of_count(depth: u8, count: u32) -> Result<f64, Refusal> {
 /// Adds cells of that depth, given by `hashes` and their counts in `batch`, to the map in the first
 /// `held` places of `zuniqs` and `counts`. Each cell is appended; while the last four entries are
 /// the children of one parent and the count merger accepts them, they are replaced by the parent.
-/// Every place after the entries is 0. A refused call leaves both buffers as they were.
+/// Cells of depth 0 have no parent, and stay as they are. Every place after the entries is 0. A
+/// refused call leaves both buffers as they were.
 ///
-/// Refused by 1: the depth is 0 or over 29; then by 2: the depth threshold is over 29; then by 3:
-/// the chi-square threshold is a NaN; then by 4: the buffers or the batch's two parts differ in
-/// length, or `held` is more than the buffers have; then by 5: the held entries are no valid map of
-/// that depth, the place is the faulty entry; then, cell by cell, by 7: its hash is N(depth) or
-/// more, and by 8: it isn't above the one before it, or the first starts before the last held entry
-/// ends; then by 10: all counts together are no u32, the place is the cell that passes it, 0 where
-/// the held ones alone do; then by 11: the buffers have fewer places than held and batch together.
+/// Refused by 1: the depth is over 29; then by 2: the depth threshold is over 29; then by 3: the
+/// chi-square threshold is a NaN; then by 4: the buffers or the batch's two parts differ in length,
+/// or `held` is more than the buffers have; then by 5: the held entries are no valid map of that
+/// depth, the place is the faulty entry; then, cell by cell, by 7: its hash is N(depth) or more, and
+/// by 8: it isn't above the one before it, or the first starts before the last held entry ends; then
+/// by 10: all counts together are no u32, the place is the cell that passes it, 0 where the held
+/// ones alone do; then by 11: the buffers have fewer places than held and batch together.
 #[allow(clippy::too_many_arguments)]
 pub fn add_counts(
     depth: u8,

@@ -96,7 +96,7 @@ impl Refusal {
     fn words(self) -> &'static str {
         match self {
             Refusal::DepthOutOfRange => {
-                "the depth is over 29, or is 0 in an add call, or a merger's parent depth is over 28"
+                "the depth is over 29, or a merger's parent depth is over 28"
             }
             Refusal::DepthThresholdOutOfRange => "the depth threshold M is over 29",
             Refusal::InvalidThresholdOrFactor => {

@@ -44,6 +44,20 @@ fn no_case_of_the_scope_is_missed() {
     assert_built(1, 0, 3.5, &[], &[]);
 }
 
+/// Every list of base cells, cut into two at every point: 0 to 3, 4 to 7 and 8 to 11 look like four
+/// siblings, but there is no parent.
+#[test]
+fn no_base_cell_is_merged() {
+    for chosen in 0..1 << 12 {
+        let hashes = (0..12u64).filter(|hash| chosen >> hash & 1 == 1);
+        let cells: Vec<(u64, u32)> = hashes.map(|hash| (hash, 1)).collect();
+        let kept: Vec<Entry> = cells.iter().map(|&(hash, n)| (0, hash, n)).collect();
+        for (m, t) in [(0, f64::INFINITY), (0, 0.0), (0, -1.0), (29, 3.5)] {
+            assert_built(0, m, t, &cells, &kept);
+        }
+    }
+}
+
 /// At both ends of the sky and at the largest depth, through all 29 merges.
 #[test]
 fn no_merge_is_left_undone_however_far_it_goes() {

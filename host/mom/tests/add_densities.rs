@@ -46,6 +46,20 @@ fn no_merge_is_missed_and_none_is_made_up() {
     assert_built(1, 0, 3.5, &[], &[]);
 }
 
+/// Every list of base cells, cut into two at every point: 0 to 3, 4 to 7 and 8 to 11 look like four
+/// siblings, but there is no parent.
+#[test]
+fn no_base_cell_is_merged() {
+    for chosen in 0..1 << 12 {
+        let hashes = (0..12u64).filter(|hash| chosen >> hash & 1 == 1);
+        let cells: Vec<(u64, f64)> = hashes.map(|hash| (hash, 0.5)).collect();
+        let kept: Vec<Entry> = cells.iter().map(|&(hash, m)| (0, hash, m)).collect();
+        for (m, t) in [(0, f64::INFINITY), (0, 0.0), (29, 3.5)] {
+            assert_built(0, m, t, &cells, &kept);
+        }
+    }
+}
+
 /// Chi of four equal densities above c is 0, so that they are kept at T = 0; below c it is below 0.
 #[test]
 fn no_quad_at_the_threshold_is_merged() {
@@ -174,8 +188,8 @@ fn no_good_call_is_refused() {
 
 #[test]
 fn no_bad_setting_and_no_bad_length_is_accepted() {
-    assert_refused(1, 0, |call| call.depth = 0);
     assert_refused(1, 0, |call| call.depth = 30);
+    assert_refused(1, 0, |call| call.depth = 255);
     assert_refused(2, 0, |call| call.m = 30);
     assert_refused(3, 0, |call| call.t = f64::NAN);
     assert_refused(4, 0, |call| call.held = 6);

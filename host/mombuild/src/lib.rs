@@ -106,7 +106,7 @@ fn numbers<const N: usize>(line: &[u8], most: [u64; N]) -> Option<[u64; N]> {
 /// held and the cells fit, so that 3 to 6, 9 and 11 don't occur.
 fn built(text: &Text) -> Outcome {
     let refused = |number, place| Refused { number, place };
-    if text.depth == 0 || text.depth > 29 {
+    if text.depth > 29 {
         return refused(1, 0);
     }
     if text.depth_threshold > 29 {

@@ -139,6 +139,20 @@ fn no_map_of_the_scope_is_missed() {
     );
 }
 
+/// Twelve monitors, one a base cell: as many entries, at any M and T. There is no thirteenth.
+#[test]
+fn no_base_cell_is_merged() {
+    let twelve = (0..12).map(|hash| format!("0,{hash},1\n"));
+    let stay = twelve.collect::<String>() + "end,12,12\n";
+    for settings in ["0,0,4294967295", "0,0,3500", "0,0,0", "0,29,4294967295"] {
+        assert_prints(text(settings, rising(12)), &stay);
+        assert_prints(text(settings, rising(13)), "refused,7,12\n");
+    }
+    let three_and_five = "0,0,0\n0,1,0\n0,2,0\n0,3,0\n0,5,9\nend,5,9\n";
+    assert_prints("0,0,3500\n0,0\n1,0\n2,0\n3,0\n5,9\n", three_and_five);
+    assert_prints("0,0,3500\n", "end,0,0\n");
+}
+
 #[test]
 fn no_readable_number_is_unreadable() {
     assert_prints(
@@ -159,8 +173,11 @@ fn no_readable_number_is_unreadable() {
 #[test]
 fn no_refusal_has_another_number_or_place() {
     for (text, number, place) in [
-        ("0,0,3500\n0,1\n", 1, 0),
         ("30,30,3500\n999,1\n", 1, 0),
+        ("0,30,3500\n12,1\n", 2, 0),
+        ("0,0,3500\n12,1\n", 7, 0),
+        ("0,0,3500\n5,1\n5,1\n", 8, 1),
+        ("0,0,3500\n3,4294967295\n4,1\n", 10, 1),
         ("255,255,0\n", 1, 0),
         ("1,30,3500\n999,1\n", 2, 0),
         ("1,0,3500\n48,1\n", 7, 0),
@@ -177,7 +194,7 @@ fn no_refusal_has_another_number_or_place() {
 /// "All text is read before anything is checked."
 #[test]
 fn no_refusal_comes_before_an_unreadable_line() {
-    assert_unreadable("0,99,1\n5,1\n5,1\n5,-1\n", 4);
+    assert_unreadable("99,99,1\n5,1\n5,1\n5,-1\n", 4);
     assert_unreadable("30,0,1\n0,1", 2);
     assert_unreadable("1,0,1\n99,4294967295\n99,4294967296\n", 3);
 }
@@ -316,7 +333,7 @@ fn no_failed_read_is_taken_for_the_end_of_the_text() {
     assert_breaks_off(text("6,7,3500", rising(2047)), 2049);
     assert_breaks_off(text("6,7,3500", rising(2048)), 2050);
     // Nor is a refusal printed, since not all text was read.
-    assert_breaks_off("0,0,3500\n0,1\n", 3);
+    assert_breaks_off("30,0,3500\n0,1\n", 3);
     assert_breaks_off("1,0,3500\n7,1\n7,1\n", 4);
 }
 
@@ -393,7 +410,7 @@ fn nearly_valid(random: &mut Random) -> Vec<u8> {
     let depth = if random.one_in(40) {
         random.below(300)
     } else {
-        1 + random.below(29)
+        random.below(30)
     };
     let threshold = if random.one_in(40) {
         random.below(300)

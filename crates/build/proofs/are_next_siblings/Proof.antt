@@ -1,21 +1,31 @@
 -- `are_next_siblings` meets its contract. Assumes nothing.
-use mathlib.Core.Path.{refl}
+use mathlib.Core.Path.{_≡_, refl}
+use mathlib.Core.Bool.{true}
 use Prim.Native.Nat.{_-_}
 use native.Mathlib.Omega.{arith}
+use lib.Dec.{ltb}
 use lib.ListN.{length}
 use borrow.Author.Needs.{needs}
-use borrow.Author.Tests.{le-leb, lt-leb}
+use borrow.Author.Tests.{le-leb, lt-leb, lt-ltb, le-ltb}
 use Rattle.build.specs.Standing.{siblingsFrom}
 use Rattle.build.proofs.are_next_siblings.Statement.{statement}
 use Rattle.build.proofs.are_next_siblings.Tie as tie
 
+-- There is a parent.
+deep : (c : tie.Else1) → ltb 0 (c .before .args .depth) ≡ true
+deep c = lt-ltb 0 (c .before .args .depth) (omega (arith, c .if1 .left))
+
+-- ---- the answers
 returns : tie.Need-returns
-unfolding siblingsFrom
-returns c = let a = c .before .args in rw (lt-leb 4 (length (a .hashes .now) - a .i) (omega (arith, c .if1 .taken))) refl
+returns c = rw (le-ltb 0 (c .before .args .depth) (omega (arith, c .if1 .taken))) refl
 
 returns-2 : tie.Need-returns-2
 unfolding siblingsFrom
-returns-2 c = let a = c .before .before .args in rw (lt-leb 4 (length (a .hashes .now) - a .i) (c .if2 .taken)) refl
+returns-2 c = let a = c .before .before .args in rw (deep (c .before), lt-leb 4 (length (a .hashes .now) - a .i) (omega (arith, c .if2 .taken))) refl
+
+returns-3 : tie.Need-returns-3
+unfolding siblingsFrom
+returns-3 c = let a = c .before .before .before .args in rw (deep (c .before .before), lt-leb 4 (length (a .hashes .now) - a .i) (c .if3 .taken)) refl
 
 mul-parent : tie.Need-mul-parent
 mul-parent c = search needs
@@ -33,14 +43,16 @@ shared-slice-read-result : tie.Need-shared-slice-read-result
 shared-slice-read-result c = search needs
 
 mul-result-2 : tie.Need-mul-result-2
-mul-result-2 c = omega (arith, c .before .shared-slice-known .given (c .before .before .before .before .args .i))
+mul-result-2 c = omega (arith, c .before .shared-slice-known .given (c .before .before .before .before .before .args .i))
 
 add-result-2 : tie.Need-add-result-2
-add-result-2 c = omega (arith, c .before .shared-slice-known .given (c .before .before .before .before .args .i))
+add-result-2 c = omega (arith, c .before .shared-slice-known .given (c .before .before .before .before .before .args .i))
 
-returns-3 : tie.Need-returns-3
+returns-4 : tie.Need-returns-4
 unfolding siblingsFrom
-returns-3 c = let a = c .before .before .before .before .args in rw (le-leb 4 (length (a .hashes .now) - a .i) (c .before .before .if2 .left)) refl
+returns-4 c =
+    let a = c .before .before .before .before .before .args in
+    rw (deep (c .before .before .before .before), le-leb 4 (length (a .hashes .now) - a .i) (c .before .before .if3 .left)) refl
 
 pub are-next-siblings-spec : {M : Type 1} → statement M
 are-next-siblings-spec =
@@ -48,6 +60,7 @@ are-next-siblings-spec =
     (tie.spec
     returns
     returns-2
+    returns-3
     mul-parent
     shared-slice-read-parent
     add-result
@@ -55,4 +68,4 @@ are-next-siblings-spec =
     shared-slice-read-result
     mul-result-2
     add-result-2
-    returns-3)
+    returns-4)

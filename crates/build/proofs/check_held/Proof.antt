@@ -86,7 +86,7 @@ end-of-map-requires : tie.Need-end-of-map-requires
 end-of-map-requires c κs =
     let a = c .before .before .before .before .before .before .before .before .before .before .before .args in
     let settings = settings-passed (c .before .before .before .before .before .before .before) in
-    (settings-pass (a .depth) (a .depth-threshold) (a .chi2-threshold) settings .1, map-passes (a .depth) (take (a .held) (a .zuniqs .now)) (map-passed c))
+    (settings-pass (a .depth) (a .depth-threshold) (a .chi2-threshold) settings, map-passes (a .depth) (take (a .held) (a .zuniqs .now)) (map-passed c))
 
 returns-4 : tie.Need-returns-4
 unfolding heldRefusal

@@ -1,6 +1,6 @@
 -- `check_settings` meets its contract. Assumes nothing.
 use mathlib.Core.Path.{refl, sym, _∙_}
-use borrow.Author.Tests.{eq-eqb, ne-eqb, lt-ltb, le-ltb}
+use borrow.Author.Tests.{lt-ltb, le-ltb}
 use Rattle.build.specs.Add.{settingsRefusal}
 use borrow.Author.Needs.{needs}
 use Rattle.build.proofs.check_settings.Statement.{statement}
@@ -8,27 +8,22 @@ use Rattle.build.proofs.check_settings.Tie as tie
 
 returns : tie.Need-returns
 unfolding settingsRefusal
-returns c = rw (eq-eqb _ _ (c .if1 .taken)) refl
+returns c = rw (lt-ltb _ _ (c .if1 .taken)) refl
 
 returns-2 : tie.Need-returns-2
 unfolding settingsRefusal
-returns-2 c = rw (ne-eqb _ _ (c .before .if1 .left), lt-ltb _ _ (c .if2 .taken)) refl
-
-returns-3 : tie.Need-returns-3
-unfolding settingsRefusal
-returns-3 c = rw (ne-eqb _ _ (c .before .before .if1 .left), le-ltb _ _ (c .before .if2 .left), lt-ltb _ _ (c .if3 .taken)) refl
+returns-2 c = rw (le-ltb _ _ (c .before .if1 .left), lt-ltb _ _ (c .if2 .taken)) refl
 
 is-nan-requires : tie.Need-is-nan-requires
 is-nan-requires c κs = search needs
 
+returns-3 : tie.Need-returns-3
+unfolding settingsRefusal
+returns-3 c = rw (le-ltb _ _ (c .before .before .before .if1 .left), le-ltb _ _ (c .before .before .if2 .left), sym (c .before .is-nan .ensures) ∙ c .if3 .taken) refl
+
 returns-4 : tie.Need-returns-4
 unfolding settingsRefusal
-returns-4 c = rw (ne-eqb _ _ (c .before .before .before .before .if1 .left), le-ltb _ _ (c .before .before .before .if2 .left), le-ltb _ _ (c .before .before .if3 .left), sym (c .before .is-nan .ensures) ∙ c .if4 .taken) refl
-
-returns-5 : tie.Need-returns-5
-unfolding settingsRefusal
-returns-5 c = rw (ne-eqb _ _ (c .before .before .before .before .if1 .left), le-ltb _ _ (c .before .before .before .if2 .left), le-ltb _ _ (c .before .before .if3 .left), sym (c .before .is-nan .ensures) ∙ c .if4 .left) refl
+returns-4 c = rw (le-ltb _ _ (c .before .before .before .if1 .left), le-ltb _ _ (c .before .before .if2 .left), sym (c .before .is-nan .ensures) ∙ c .if3 .left) refl
 
 pub check-settings-spec : {M : Type 1} → statement M
-check-settings-spec =
-    tie.close (tie.spec returns returns-2 returns-3 is-nan-requires returns-4 returns-5)
+check-settings-spec = tie.close (tie.spec returns returns-2 is-nan-requires returns-3 returns-4)

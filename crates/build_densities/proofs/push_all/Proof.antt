@@ -24,7 +24,7 @@ abbrev start : tie.At-loop Inv-loop μ-loop → tie.Start Inv-loop μ-loop
 start c = c .before .before .before .before .before .before
 
 cell-left : (c : tie.In-loop Inv-loop μ-loop) → let values = start (c .before) .args .batch .now in (c .before .loop .i < length values) × (8 * length values < 2 ^ 64)
-cell-left c = let s = start (c .before) in (omega (arith, c .loop-test .taken, s .pre .0 .3), omega (arith, s .good))
+cell-left c = let s = start (c .before) in (omega (arith, c .loop-test .taken, s .pre .0 .2), omega (arith, s .good))
 
 -- the same where the next four are siblings
 abbrev turn : tie.Then1 Inv-loop μ-loop → tie.At-loop Inv-loop μ-loop
@@ -36,14 +36,11 @@ four c =
     siblings-from (s .args .depth) (s .args .hashes .now) (turn c .loop .i) (s .pre .1) (c .before .before .before .loop-test .taken) (sym (c .before .are-next-siblings .ensures) ∙ c .if1 .taken)
 
 four-left : (c : tie.Then1 Inv-loop μ-loop) → let values = start (turn c) .args .batch .now in (turn c .loop .i + 4 ≤ length values) × (8 * length values < 2 ^ 64)
-four-left c = let s = start (turn c) in (omega (arith, four c .within, s .pre .0 .3), omega (arith, s .good))
+four-left c = let s = start (turn c) in (omega (arith, four c .within, s .pre .0 .2), omega (arith, s .good))
 
 -- ---- the answers
-sub-unit-density : tie.Need-sub-unit-density Inv-loop μ-loop
-sub-unit-density c = omega (arith, c .before .before .before .before .pre .0 .1)
-
-unit-density-requires : tie.Need-unit-density-requires Inv-loop μ-loop
-unit-density-requires c κs = omega (arith, c .before .before .before .before .pre .0 .2)
+unit-density-of-parents-requires : tie.Need-unit-density-of-parents-requires Inv-loop μ-loop
+unit-density-of-parents-requires c κs = c .before .before .before .before .pre .0 .1
 
 loop-holds : tie.Need-loop-holds Inv-loop μ-loop
 loop-holds c = let p = c .before .before .before .before .before .pre in (before-first (p .0 .0), refl, refl)
@@ -97,7 +94,7 @@ push-siblings-requires c κs =
     let o = turn t .loop in
     let w = o .inv .0 in
     let f = four t in
-    (w .stands, omega (arith, w .least, f .within, o .inv .1, p .4), omega (arith, w .least, f .within, o .inv .2, p .5), p .1, p .2, f .below, f .first, turn t .before .unit-density .ensures)
+    (w .stands, omega (arith, w .least, f .within, o .inv .1, p .3), omega (arith, w .least, f .within, o .inv .2, p .4), f .deep, p .1, f .below, f .first, turn t .before .unit-density-of-parents .ensures (f .deep))
 
 add-i : tie.Need-add-i Inv-loop μ-loop
 add-i c = omega (arith, four-left (c .before .before .before .before .before .before .before .before .before .before .before))
@@ -116,7 +113,7 @@ to-zuniq-unchecked-requires : tie.Need-to-zuniq-unchecked-requires Inv-loop μ-l
 to-zuniq-unchecked-requires c κs =
     let t = c .before .before .before .before .before in
     let p = start (t .before) .pre in
-    (p .0 .2, p .1 .below (t .before .loop .i) (t .loop-test .taken))
+    (p .0 .1, p .1 .below (t .before .loop .i) (t .loop-test .taken))
 
 mul-push : tie.Need-mul-push Inv-loop μ-loop
 mul-push c = omega (arith, cell-left (c .before .before .before .before .before .before))
@@ -132,9 +129,9 @@ push-requires c κs =
     let w = o .inv .0 in
     let i = t .loop-test .taken in (
       w .stands,
-      omega (arith, w .least, i, o .inv .1, p .0 .4),
-      omega (arith, w .least, i, o .inv .2, p .0 .5),
-      record { deep = p .0 .2; hash = p .1 .below (o .i) i; is = c .before .to-zuniq-unchecked .ensures },
+      omega (arith, w .least, i, o .inv .1, p .0 .3),
+      omega (arith, w .least, i, o .inv .2, p .0 .4),
+      record { deep = p .0 .1; hash = p .1 .below (o .i) i; is = c .before .to-zuniq-unchecked .ensures },
     )
 
 add-i-2 : tie.Need-add-i-2 Inv-loop μ-loop
@@ -157,7 +154,7 @@ same-length-2 : tie.Need-same-length-2 Inv-loop μ-loop
 same-length-2 c = c .before .loop .inv .2
 
 returns : tie.Need-returns Inv-loop μ-loop
-returns c = after-last (c .before .loop .inv .0) (start (c .before) .pre .0 .3) (c .loop-test .left)
+returns c = after-last (c .before .loop .inv .0) (start (c .before) .pre .0 .2) (c .loop-test .left)
 
 pub push-all-spec : {M : Type 1} → statement M
 push-all-spec =
@@ -165,8 +162,7 @@ push-all-spec =
     (tie.spec
     Inv-loop
     μ-loop
-    sub-unit-density
-    unit-density-requires
+    unit-density-of-parents-requires
     loop-holds
     mul-hash
     shared-slice-read-hash

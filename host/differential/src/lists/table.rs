@@ -31,7 +31,7 @@ impl<V: Value> Arguments<'_, V> {
         let places = self.zuniqs.len();
         let lengths_differ = places != self.values.len() || self.hashes.len() != self.batch.len();
         let rows = [
-            (1, self.depth == 0 || self.depth > DEPTH_MAX),
+            (1, self.depth > DEPTH_MAX),
             (2, self.depth_threshold > DEPTH_MAX),
             (3, self.chi2_threshold.is_nan()),
             (4, lengths_differ || self.held > places),

@@ -147,6 +147,12 @@ impl Draw {
         map
     }
 
+    /// Base cells from the first on, now and then one left out.
+    pub fn base_cells(&mut self) -> Vec<u64> {
+        let cells = (0..self.below(12) as u64).filter(|_| !self.one_in(12));
+        cells.map(|hash| (2 * hash + 1) << 58).collect()
+    }
+
     /// Any bytes, of a length that mostly is that of some rows.
     pub fn bytes(&mut self) -> Vec<u8> {
         let length = match self.below(4) {
@@ -183,19 +189,28 @@ impl Draw {
     /// A map of cells of one depth and above it, and cells behind it; some of it wrong.
     pub fn add_call(&mut self) -> AddCall {
         let depth = self.depth();
-        let mut zuniqs = self.map();
+        let of_base_cells = depth == 0 && !self.one_in(4);
+        let mut zuniqs = if of_base_cells {
+            self.base_cells()
+        } else {
+            self.map()
+        };
         let held = match self.below(8) {
             0 => self.below(14),
             _ => zuniqs.len(),
         };
         let n = 12u64 << (2 * depth.min(29));
-        let from = self.below(n.min(64) as usize) as u64;
+        let from = if of_base_cells {
+            zuniqs.last().map_or(0, |last| (last >> 59) + 1)
+        } else {
+            self.below(n.min(64) as usize) as u64
+        };
         let mut hashes: Vec<u64> = (0..self.below(20) as u64).map(|i| from + i).collect();
         if self.one_in(4) {
             let last = hashes.len();
             hashes.extend((last..last + 1).map(|_| self.few_bits()));
         }
-        if !self.one_in(4) {
+        if !of_base_cells && !self.one_in(4) {
             zuniqs.truncate(self.below(2));
         }
         let free = match self.below(8) {

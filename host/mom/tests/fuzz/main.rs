@@ -182,6 +182,7 @@ fn reading_and_writing_rows() {
 #[test]
 fn adding() {
     let (mut counts, mut densities) = (Met::default(), Met::default());
+    let (mut quads, mut completed) = (0, 0);
     rounds("adding", |draw| {
         let call = draw.add_call();
         let (mut z, mut n) = (call.zuniqs.clone(), draw.counts_of(call.values));
@@ -191,6 +192,10 @@ fn adding() {
         let answer = mom::add_counts(d, m, t, held, &mut z, &mut n, &call.hashes, &batch)
             .map(|added| (added.entries, added.total));
         counts.add(&answer);
+        if call.depth == 0 && answer.is_ok() {
+            quads += call.hashes.starts_with(&[0, 1, 2, 3]) as usize;
+            completed += (held == 3 && call.hashes.starts_with(&[3])) as usize;
+        }
         assert_eq!((answer, z, n), expected, "{call:?} {batch:?}");
 
         let (mut z, mut x) = (call.zuniqs.clone(), draw.densities_of(call.values));
@@ -201,6 +206,8 @@ fn adding() {
         assert_eq!((answer, z), (expected.0, expected.1), "{call:?} {batch:?}");
         assert_eq!(bits(&x), bits(&expected.2), "{call:?} {batch:?}");
     });
+    // Base cells 0 to 3, which have no parent: in one batch, and held but for the last.
+    assert!(quads >= 2 && completed >= 2, "{quads} {completed}");
     counts.assert_all(&[0, 1, 2, 3, 4, 5, 7, 8, 10, 11]);
     densities.assert_all(&[0, 1, 2, 3, 4, 5, 6, 7, 8, 9, 11]);
 }

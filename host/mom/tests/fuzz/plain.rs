@@ -185,7 +185,7 @@ pub fn assert_overlapped(zuniqs: &[u64], query: u64, answer: Answer<Range<usize>
 // ---- Section 4
 
 fn check_add(call: &AddCall, buffer: usize, batch: usize) -> Answer<()> {
-    refuse_if(call.depth == 0 || call.depth > 29, 1, 0)?;
+    refuse_if(call.depth > 29, 1, 0)?;
     refuse_if(call.m > 29, 2, 0)?;
     refuse_if(call.t.is_nan(), 3, 0)?;
     let places = call.zuniqs.len();
