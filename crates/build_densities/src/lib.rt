@@ -380,7 +380,7 @@ fn merge_last(
 // c for four siblings of a depth. Base cells have no parent, so that nobody asks.
 fn unit_density_of_parents(depth: u8) -> f64
     requires { ⌜ depth ≤ 29 ⌝ }
-    ensures { λ r. ⌜ 0 < depth → r ≡ unitDensity (depth - 1) ⌝ }
+    ensures { λ r. ⌜ (0 < depth → r ≡ unitDensity (depth - 1)) ⌝ }
 {
     if depth == 0 {
         return 0.0;
