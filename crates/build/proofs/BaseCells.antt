@@ -29,7 +29,7 @@ use Rattle.build.proofs.Adding.{run-total}
 use Rattle.build.proofs.Buffers.{laid-cons-append, length-batch}
 use Rattle.build.proofs.Calls.{batch-depth}
 use Rattle.build.proofs.Places.{held-length, held-zuniqs, held-values}
-use Rattle.build.proofs.Accepted.{Accepted, counts-accepted, valid-stands, held-total, batch-total}
+use Rattle.build.proofs.Accepted.{counts-accepted, valid-stands, held-total, batch-total}
 use Rattle.build.proofs.DensityCalls.{densities-accepted}
 
 -- cells of depth 0

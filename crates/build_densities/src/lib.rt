@@ -144,7 +144,7 @@ fn push_all(
     requires { ⌜ Rising depth (now hashes) ⌝ }
     ensures { λ r. ⌜ Added (acceptDensities «depth_threshold» «chi2_threshold») 29 held (batchOf depth (now (hashes .entry)) (now (batch .entry))) (now (zuniqs .entry)) (now (densities .entry)) r (now (zuniqs .exit)) (now (densities .exit)) ⌝ }
 {
-    let c = unit_density_of_parents(depth);
+    let c = unit_density(depth_above(depth));
     let mut n = held;
     let mut i = 0;
     while i < hashes.len() {
@@ -377,15 +377,14 @@ fn merge_last(
     )
 }
 
-// c for four siblings of a depth. Base cells have no parent, so that nobody asks.
-fn unit_density_of_parents(depth: u8) -> f64
-    requires { ⌜ depth ≤ 29 ⌝ }
-    ensures { λ r. ⌜ (0 < depth → r ≡ unitDensity (depth - 1)) ⌝ }
+// The depth of the parents of cells. Base cells have none, and nothing is merged there: 0, as good as any.
+fn depth_above(depth: u8) -> u8
+    ensures { λ r. ⌜ r ≡ depth - 1 ⌝ }
 {
     if depth == 0 {
-        return 0.0;
+        return 0;
     }
-    unit_density(depth - 1)
+    depth - 1
 }
 
 // c at a parent depth.

@@ -1,11 +1,10 @@
 -- What the requests of document 02 left as it was: laws against the former definitions (specs/Former). Assumes nothing.
-use mathlib.Core.Path.{_≡_, refl, ap, _∙_}
+use mathlib.Core.Path.{_≡_, refl}
 use mathlib.Core.Option.{none}
 use Prim.Native.Nat.{ℕ, _≤_, _<_}
 use native.Mathlib.Omega.{arith}
 use borrow.Author.Tests.{ne-eqb, le-ltb}
 use Rattle.refusal.specs.declared.Refusal.{Refusal}
-use Rattle.build.specs.Map.{orElse}
 use Rattle.build.specs.Calls.{Buffers, Batch, Answer, Calls, addCall}
 use Rattle.claims.specs.Former.{formerRow1, withFormerRow1}
 

@@ -1,2 +1,3 @@
-// The claims about the whole library, in specs/: the scope's starred cases in one joint table,
-// computed from the definitions that the contracts use. There is no code here.
+// The claims about the whole library, over the definitions that the contracts use: demand 3, what every
+// call answers, what the change requests left as it was, and the cases in one joint table that is
+// computed. There is no code here.

@@ -147,12 +147,6 @@ impl Draw {
         map
     }
 
-    /// Base cells from the first on, now and then one left out.
-    pub fn base_cells(&mut self) -> Vec<u64> {
-        let cells = (0..self.below(12) as u64).filter(|_| !self.one_in(12));
-        cells.map(|hash| (2 * hash + 1) << 58).collect()
-    }
-
     /// Any bytes, of a length that mostly is that of some rows.
     pub fn bytes(&mut self) -> Vec<u8> {
         let length = match self.below(4) {
@@ -186,32 +180,42 @@ impl Draw {
         first..end
     }
 
+    /// A map, mostly of few entries, and a hash that may stand behind it.
+    fn held_map(&mut self, depth: u8) -> (Vec<u64>, u64) {
+        let mut map = self.map();
+        if !self.one_in(4) {
+            map.truncate(self.below(2));
+        }
+        let n = 12u64 << (2 * depth.min(29));
+        (map, self.below(n.min(64) as usize) as u64)
+    }
+
+    /// The first base cells, now and then one left out, and the hash behind them: often as many that the
+    /// next one would complete four, or that the next four look like siblings.
+    fn base_cells(&mut self) -> (Vec<u64>, u64) {
+        let end = match self.below(2) {
+            0 => [0, 3, 4, 7, 8, 11][self.below(6)],
+            _ => self.below(13) as u64,
+        };
+        let cells = (0..end).filter(|_| !self.one_in(16));
+        (cells.map(|hash| (2 * hash + 1) << 58).collect(), end)
+    }
+
     /// A map of cells of one depth and above it, and cells behind it; some of it wrong.
     pub fn add_call(&mut self) -> AddCall {
         let depth = self.depth();
-        let of_base_cells = depth == 0 && !self.one_in(4);
-        let mut zuniqs = if of_base_cells {
-            self.base_cells()
-        } else {
-            self.map()
+        let (mut zuniqs, from) = match depth {
+            0 if !self.one_in(4) => self.base_cells(),
+            _ => self.held_map(depth),
         };
         let held = match self.below(8) {
             0 => self.below(14),
             _ => zuniqs.len(),
         };
-        let n = 12u64 << (2 * depth.min(29));
-        let from = if of_base_cells {
-            zuniqs.last().map_or(0, |last| (last >> 59) + 1)
-        } else {
-            self.below(n.min(64) as usize) as u64
-        };
         let mut hashes: Vec<u64> = (0..self.below(20) as u64).map(|i| from + i).collect();
         if self.one_in(4) {
             let last = hashes.len();
             hashes.extend((last..last + 1).map(|_| self.few_bits()));
-        }
-        if !of_base_cells && !self.one_in(4) {
-            zuniqs.truncate(self.below(2));
         }
         let free = match self.below(8) {
             0 => self.below(24),
