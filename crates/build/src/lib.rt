@@ -154,7 +154,8 @@ pub fn check_cell(n_hash: u64, least: u64, hash: u64, place: usize) -> Check
 }
 
 // Whether the last four of n entries are children 0 to 3 of one parent, the last one being the cell
-// given. Most cells are no fourth child: for them one test is all.
+// given. Most cells are no fourth child: for them one test is all. Of base cells, which have no parent,
+// nobody asks: collapsing ends at depth 0.
 pub fn are_siblings(zuniqs: &[u64], n: usize, depth: u8, hash: u64) -> bool
     requires { ⌜ (n ≤ length (now zuniqs)) × IsZuniqOf 29 (getD (now zuniqs) (n - 1) 0) depth hash ⌝ }
     ensures { λ r. ⌜ r ≡ quadAt 29 n (now (zuniqs .entry)) depth hash ⌝ }
