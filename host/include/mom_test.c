@@ -231,7 +231,7 @@ static void multiplying(void) {
            zuniqs[1] == 0 && densities[1] == 0, "a product of 6");
 }
 
-/* The twelve base cells have no parent: nothing is merged, in one call or in two, at any T. */
+/* The twelve base cells have no parent: nothing is merged at an infinite T, in one call or two. */
 static void base_cells(void) {
     uint64_t zuniqs[13] = {5}, hashes[13];
     uint32_t counts[13] = {5}, batch[13], total = 5;

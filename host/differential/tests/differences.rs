@@ -321,7 +321,7 @@ fn added(
 }
 
 /// The entries that ours builds from one batch.
-fn ours_built((depth, m, t): (u8, u8, f64), cells: &[(u64, u32)]) -> Vec<(u64, u32)> {
+fn our_counts((depth, m, t): (u8, u8, f64), cells: &[(u64, u32)]) -> Vec<(u64, u32)> {
     let (hashes, batch): (Vec<u64>, Vec<u32>) = cells.iter().copied().unzip();
     let (mut zuniqs, mut counts) = (vec![77; cells.len()], vec![77; cells.len()]);
     let answer = mom::add_counts(depth, m, t, 0, &mut zuniqs, &mut counts, &hashes, &batch);
@@ -344,12 +344,12 @@ fn assert_refused(setting: (u8, u8, f64), cells: &[(u64, u32)], number: u8, plac
 #[test]
 fn add_counts_appends_base_cells() {
     assert_overflows(|| original_built((0, 0, 3.0), &[]), vec![]);
-    assert_eq!(ours_built((0, 0, 3.0), &[]), []);
+    assert_eq!(our_counts((0, 0, 3.0), &[]), []);
     let cells = [(0, 2), (1, 2), (2, 2), (3, 2)];
     let setting = (0, 4, 3.0);
     assert_overflows(|| original_built(setting, &cells), vec![(1 << 60, 8)]);
     let kept = cells.map(|(hash, count)| (run::to_zuniq(0, hash), count));
-    assert_eq!(ours_built(setting, &cells), kept);
+    assert_eq!(our_counts(setting, &cells), kept);
 }
 
 /// The original appends what comes.

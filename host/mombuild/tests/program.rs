@@ -148,8 +148,8 @@ fn no_base_cell_is_merged() {
         assert_prints(text(settings, rising(12)), &stay);
         assert_prints(text(settings, rising(13)), "refused,7,12\n");
     }
-    let three_and_five = "0,0,0\n0,1,0\n0,2,0\n0,3,0\n0,5,9\nend,5,9\n";
-    assert_prints("0,0,3500\n0,0\n1,0\n2,0\n3,0\n5,9\n", three_and_five);
+    let blank = "0,0,0\n0,1,0\n0,2,0\n0,3,0\n0,5,9\nend,5,9\n";
+    assert_prints("0,0,3500\n0,0\n1,0\n2,0\n3,0\n5,9\n", blank);
     assert_prints("0,0,3500\n", "end,0,0\n");
 }
 
