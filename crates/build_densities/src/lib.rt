@@ -377,7 +377,7 @@ fn merge_last(
     )
 }
 
-// The depth of the parents of cells. Base cells have none, and nothing is merged there: 0, as good as any.
+// The depth of the parents of a depth's cells; 0 for base cells, which have none and are never merged.
 fn depth_above(depth: u8) -> u8
     ensures { λ r. ⌜ r ≡ depth - 1 ⌝ }
 {
