@@ -144,7 +144,7 @@ fn push_all(
     requires { ⌜ Rising depth (now hashes) ⌝ }
     ensures { λ r. ⌜ Added (acceptDensities «depth_threshold» «chi2_threshold») 29 held (batchOf depth (now (hashes .entry)) (now (batch .entry))) (now (zuniqs .entry)) (now (densities .entry)) r (now (zuniqs .exit)) (now (densities .exit)) ⌝ }
 {
-    let c = unit_density(depth_above(depth));
+    let c = unit_density_of_parents(depth);
     let mut n = held;
     let mut i = 0;
     while i < hashes.len() {
@@ -377,14 +377,13 @@ fn merge_last(
     )
 }
 
-// The depth of the parents of a depth's cells; 0 for base cells, which have none and are never merged.
-fn depth_above(depth: u8) -> u8
-    ensures { λ r. ⌜ r ≡ depth - 1 ⌝ }
+// c for four siblings of a depth, which has four times as many cells as there are parents. Base cells have
+// no parent, and none asks.
+fn unit_density_of_parents(depth: u8) -> f64
+    requires { ⌜ depth ≤ 29 ⌝ }
+    ensures { λ r. ⌜ (0 < depth → r ≡ unitDensity (depth - 1)) ⌝ }
 {
-    if depth == 0 {
-        return 0;
-    }
-    depth - 1
+    merger::unit_density(n_hash_unchecked(depth) / 4)
 }
 
 // c at a parent depth.

@@ -1,11 +1,11 @@
 -- `push_all` meets its contract. The loop's invariant is `Before`. Assumes nothing.
-use mathlib.Core.Path.{_≡_, refl, ap, sym, _∙_}
+use mathlib.Core.Path.{_≡_, refl, sym, _∙_}
 use Prim.Native.Nat.{_+_, _*_, _-_, _^_, _≤_, _<_}
 use native.Mathlib.Omega.{arith}
 use lib.Ieee.{nan}
 use lib.ListN.{length}
 use borrow.Author.Needs.{needs}
-use Rattle.merger.specs.Merge.{unitDensity, acceptDensities}
+use Rattle.merger.specs.Merge.{acceptDensities}
 use Rattle.build.proofs.Siblings.{AreSiblings, siblings-from}
 use Rattle.build.proofs.Pushing.{Before, before-first, before-next, before-next-four, after-last}
 use Rattle.build_densities.proofs.push_all.Statement.{statement}
@@ -21,7 +21,7 @@ abbrev μ-loop : tie.MeasureT-loop
 
 -- ---- a turn
 abbrev start : tie.At-loop Inv-loop μ-loop → tie.Start Inv-loop μ-loop
-start c = c .before .before .before .before .before .before .before
+start c = c .before .before .before .before .before .before
 
 cell-left : (c : tie.In-loop Inv-loop μ-loop) → let values = start (c .before) .args .batch .now in (c .before .loop .i < length values) × (8 * length values < 2 ^ 64)
 cell-left c = let s = start (c .before) in (omega (arith, c .loop-test .taken, s .pre .0 .2), omega (arith, s .good))
@@ -39,14 +39,11 @@ four-left : (c : tie.Then1 Inv-loop μ-loop) → let values = start (turn c) .ar
 four-left c = let s = start (turn c) in (omega (arith, four c .within, s .pre .0 .2), omega (arith, s .good))
 
 -- ---- the answers
-depth-above-requires : tie.Need-depth-above-requires Inv-loop μ-loop
-depth-above-requires c κs = search needs
-
-unit-density-requires : tie.Need-unit-density-requires Inv-loop μ-loop
-unit-density-requires c κs = omega (arith, c .depth-above .ensures, c .before .before .before .before .before .pre .0 .1)
+unit-density-of-parents-requires : tie.Need-unit-density-of-parents-requires Inv-loop μ-loop
+unit-density-of-parents-requires c κs = c .before .before .before .before .pre .0 .1
 
 loop-holds : tie.Need-loop-holds Inv-loop μ-loop
-loop-holds c = let p = c .before .before .before .before .before .before .pre in (before-first (p .0 .0), refl, refl)
+loop-holds c = let p = c .before .before .before .before .before .pre in (before-first (p .0 .0), refl, refl)
 
 mul-hash : tie.Need-mul-hash Inv-loop μ-loop
 mul-hash c = search needs
@@ -97,7 +94,7 @@ push-siblings-requires c κs =
     let o = turn t .loop in
     let w = o .inv .0 in
     let f = four t in
-    (w .stands, omega (arith, w .least, f .within, o .inv .1, p .3), omega (arith, w .least, f .within, o .inv .2, p .4), f .deep, p .1, f .below, f .first, turn t .before .unit-density .ensures ∙ ap unitDensity (turn t .before .before .depth-above .ensures))
+    (w .stands, omega (arith, w .least, f .within, o .inv .1, p .3), omega (arith, w .least, f .within, o .inv .2, p .4), f .deep, p .1, f .below, f .first, turn t .before .unit-density-of-parents .ensures (f .deep))
 
 add-i : tie.Need-add-i Inv-loop μ-loop
 add-i c = omega (arith, four-left (c .before .before .before .before .before .before .before .before .before .before .before))
@@ -165,8 +162,7 @@ push-all-spec =
     (tie.spec
     Inv-loop
     μ-loop
-    depth-above-requires
-    unit-density-requires
+    unit-density-of-parents-requires
     loop-holds
     mul-hash
     shared-slice-read-hash
