@@ -1,13 +1,13 @@
 -- Cells of depth 0, the base cells: note 1 of 02. They have no parent, so that an add call appends them and merges none, whatever the
 -- merger. Assumes nothing.
 use mathlib.Core.Path.{_≡_, refl, ap, ap₂, sym, _∙_}
-use mathlib.Core.List.{List, [], _∷_, _++_, map, reverse, reverseAux, reverse-reverse, append-assoc, append-nil}
+use mathlib.Core.List.{List, [], _∷_, _++_, map, reverse, reverseAux, reverse-reverse, append-assoc}
 use mathlib.Core.Logic.{inl, inr}
 use mathlib.Core.Option.{none}
 use Prim.Native.Nat.{ℕ, zero, suc, _+_, _-_}
 use native.Mathlib.Omega.{arith}
 use lib.Ieee.{Float, nan}
-use lib.ListN.{length, take, replicate, length-map}
+use lib.ListN.{length, take, replicate, length-map, length-reverseAux}
 use Rattle.zuniq.specs.Cells.{nHash}
 use Rattle.zuniq.specs.Codec.{zuniq}
 use Rattle.merger.specs.Floats.{0·0}
@@ -26,7 +26,7 @@ use Rattle.build.specs.Counts.{totalOf, countsRefusal, addCounts}
 use Rattle.build.specs.Densities.{densitiesRefusal, addDensities}
 use Rattle.build.proofs.Law.{run-gives-defined-map}
 use Rattle.build.proofs.Adding.{run-total}
-use Rattle.build.proofs.Buffers.{laid-cons-append, length-batch}
+use Rattle.build.proofs.Buffers.{laid-onto, length-batch, batch-zuniqs, batch-values}
 use Rattle.build.proofs.Calls.{batch-depth}
 use Rattle.build.proofs.Places.{held-length, held-zuniqs, held-values}
 use Rattle.build.proofs.Accepted.{counts-accepted, valid-stands, held-total, batch-total}
@@ -55,31 +55,6 @@ module _ {A : Type 0} (accept : Merger A) where
       sym (reverse-reverse m) ∙ ap reverse (sym (run-gives-defined-map accept 0 l r) ∙ base-cells-stay [] l low) ∙ reverse-reverse l
   base-cells-map (suc D) q l low r = absurd (omega arith)
 
--- ---- cells put behind the entries of a map, in a buffer
-module _ {A B : Type 0} (part : Entry A → B) where
-  laid-onto : (l s : List (Entry A)) → laid part (reverseAux l s) ≡ laid part s ++ map part l
-  laid-onto [] s = sym (append-nil (laid part s))
-  laid-onto (e ∷ l) s = laid-onto l (e ∷ s) ∙ laid-cons-append part e s (map part l)
-
-length-onto : {A : Type 0} (l s : List (Entry A)) → length (reverseAux l s) ≡ length s + length l
-length-onto [] s = omega arith
-length-onto (e ∷ l) s = omega (arith, length-onto l (e ∷ s))
-
--- A batch in the two buffers.
-module _ {A : Type 0} (D : ℕ) where
-  batch-zuniqs : (K : ℕ) (hs : List ℕ) (vs : List A) → length hs ≡ length vs → map (zuniqOf K) (batch D hs vs) ≡ map (zuniq K D) hs
-  unfolding batch
-  batch-zuniqs K [] vs n = refl
-  batch-zuniqs K (h ∷ hs) [] n = absurd (omega arith)
-  batch-zuniqs K (h ∷ hs) (v ∷ vs) n = ap (λ (l : List ℕ). zuniq K D h ∷ l) (batch-zuniqs K hs vs (omega arith))
-
-  batch-values : (hs : List ℕ) (vs : List A) → length hs ≡ length vs → map valueOf (batch D hs vs) ≡ vs
-  unfolding batch
-  batch-values [] [] n = refl
-  batch-values [] (v ∷ vs) n = absurd (omega arith)
-  batch-values (h ∷ hs) [] n = absurd (omega arith)
-  batch-values (h ∷ hs) (v ∷ vs) n = ap (λ (l : List A). v ∷ l) (batch-values hs vs (omega arith))
-
 -- "the held ones followed by the batch's": a buffer whose first m places are held, with some more behind them, and then the value that
 -- clears a place
 abbrev pub followed : {B : Type 0} → ℕ → List B → List B → B → List B
@@ -94,7 +69,7 @@ module _ {A : Type 0} (accept : Merger A) (K : ℕ) (u : A) (m : ℕ) (zs : List
   left-is = base-cells-stay accept (held K m zs vs) (batch 0 hs xs) (batch-depth 0 hs xs)
 
   length-left : length left ≡ m + length (batch 0 hs xs)
-  length-left = ap length left-is ∙ length-onto (batch 0 hs xs) (held K m zs vs) ∙ ap (λ (k : ℕ). k + length (batch 0 hs xs)) (held-length K u m zs vs w)
+  length-left = ap length left-is ∙ omega (arith, length-reverseAux (batch 0 hs xs) (held K m zs vs), held-length K u m zs vs w)
 
   buffer-left : {B : Type 0} (part : Entry A → B) (filler : B) (l more : List B) → laid part (held K m zs vs) ≡ take m l → map part (batch 0 hs xs) ≡ more
       → filled part filler (length l) left ≡ followed m l more filler

@@ -9,7 +9,7 @@ use native.Mathlib.Numerals.{add-one}
 use lib.ListN.{length, take, drop, getD, length-append, length-map, length-replicate, length-reverse, drop-of-length-le}
 use lib.Seq.{take-at, drop-cons, length-take-le}
 use Rattle.zuniq.specs.Cells.{nHash}
-use Rattle.zuniq.specs.Codec.{IsZuniqOf}
+use Rattle.zuniq.specs.Codec.{zuniq, IsZuniqOf}
 use Rattle.zuniq.proofs.Codec.{cell, decodes}
 use Rattle.build.specs.Map.{Entry, entry}
 use Rattle.build.specs.Promises.{Has}
@@ -36,6 +36,11 @@ module _ {A B : Type 0} (part : Entry A → B) where
   -- The same before what comes after.
   pub laid-cons-append : (e : Entry A) (s : List (Entry A)) (t : List B) → laid part (e ∷ s) ++ t ≡ laid part s ++ (part e ∷ t)
   laid-cons-append e s t = rw laid-cons (append-assoc (laid part s) (part e ∷ []) t)
+
+  -- The same of several.
+  pub laid-onto : (l s : List (Entry A)) → laid part (reverseAux l s) ≡ laid part s ++ map part l
+  laid-onto [] s = sym (append-nil (laid part s))
+  laid-onto (e ∷ l) s = laid-onto l (e ∷ s) ∙ laid-cons-append e s (map part l)
 
   -- The entries are the first places of the whole buffer.
   pub take-filled : (filler : B) (places : ℕ) (s : List (Entry A)) → take (length s) (filled part filler places s) ≡ laid part s
@@ -93,6 +98,20 @@ module _ {A : Type 0} (D : ℕ) where
   length-batch [] vs n = refl
   length-batch (h ∷ hs) [] n = absurd (omega arith)
   length-batch (h ∷ hs) (v ∷ vs) n = ap suc (length-batch hs vs (omega arith))
+
+  -- Its zuniqs and its values.
+  pub batch-zuniqs : (K : ℕ) (hs : List ℕ) (vs : List A) → length hs ≡ length vs → map (zuniqOf K) (batch D hs vs) ≡ map (zuniq K D) hs
+  unfolding batch
+  batch-zuniqs K [] vs n = refl
+  batch-zuniqs K (h ∷ hs) [] n = absurd (omega arith)
+  batch-zuniqs K (h ∷ hs) (v ∷ vs) n = ap (λ (l : List ℕ). zuniq K D h ∷ l) (batch-zuniqs K hs vs (omega arith))
+
+  pub batch-values : (hs : List ℕ) (vs : List A) → length hs ≡ length vs → map valueOf (batch D hs vs) ≡ vs
+  unfolding batch
+  batch-values [] [] n = refl
+  batch-values [] (v ∷ vs) n = absurd (omega arith)
+  batch-values (h ∷ hs) [] n = absurd (omega arith)
+  batch-values (h ∷ hs) (v ∷ vs) n = ap (λ (l : List A). v ∷ l) (batch-values hs vs (omega arith))
 
   -- The cells from the i-th on, by place.
   pub batch-drop : (hs : List ℕ) (vs : List A) (u : A) (i : ℕ) → i < length hs → i < length vs → batch D (drop i hs) (drop i vs) ≡ entry D (getD hs i 0) (getD vs i u) ∷ batch D (drop (i + 1) hs) (drop (i + 1) vs)

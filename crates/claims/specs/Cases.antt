@@ -1,5 +1,5 @@
--- The starred cases of the scope and those of the requests, as one joint table: each row is a test that is computed from the definitions that the
--- contracts of the calls use, and all of them hold. Assumes nothing.
+-- The starred cases of the scope and those of the requests, as one joint table: each row is a test that is computed from the
+-- definitions that the contracts of the calls use, and all of them hold. Assumes nothing.
 use mathlib.Core.Path.{_≡_, refl}
 use mathlib.Core.Bool.{Bool, true, false, _&&_}
 use mathlib.Core.List.{List, [], _∷_, _++_}
