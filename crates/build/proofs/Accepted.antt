@@ -28,71 +28,71 @@ use Rattle.build.proofs.Places.{fewer, held-suc, held-length, held-zuni
 use Rattle.build.proofs.Filling.{sum-append}
 use Rattle.build.proofs.Checking.{or-else-none, grouped, settings-pass, lengths-pass, map-passes, space-passes, total-fits, cells-pass}
 
-pub record Accepted {A : Type 0} (bad : A → Bool) (D m places values : ℕ) (zs hs : List ℕ) (xs : List A) : Type 0 where
-  pub shallow : D ≤ 29
+pub record Accepted {A : Type 0} (bad : A → Bool) (K D m places values : ℕ) (zs hs : List ℕ) (xs : List A) : Type 0 where
+  pub shallow : D ≤ K
   pub paired : places ≡ values
   pub within : m ≤ places
   pub batched : length hs ≡ length xs
-  pub valid : ValidMap 29 D zs
-  pub cells : cellsRefusal bad D (mapEnd 29 D zs) 0 hs xs ≡ none
+  pub valid : ValidMap K D zs
+  pub cells : cellsRefusal bad D (mapEnd K D zs) 0 hs xs ≡ none
   pub room : m + length hs ≤ places
 
 -- The rows that all add calls have in common.
-pub accepted : {A : Type 0} (bad : A → Bool) (D M : ℕ) (T : Float) (m places values : ℕ) (zs hs : List ℕ) (xs : List A)
-    → settingsRefusal D M T ≡ none → lengthsRefusal m places values (length hs) (length xs) ≡ none → mapRefusal (firstFault 29 D zs) ≡ none
-    → cellsRefusal bad D (mapEnd 29 D zs) 0 hs xs ≡ none → spaceRefusal places m (length hs) ≡ none → Accepted bad D m places values zs hs xs
-accepted bad D M T m places values zs hs xs a b c d e =
+pub accepted : {A : Type 0} (bad : A → Bool) (K D M : ℕ) (T : Float) (m places values : ℕ) (zs hs : List ℕ) (xs : List A)
+    → settingsRefusal K D M T ≡ none → lengthsRefusal m places values (length hs) (length xs) ≡ none → mapRefusal (firstFault K D zs) ≡ none
+    → cellsRefusal bad D (mapEnd K D zs) 0 hs xs ≡ none → spaceRefusal places m (length hs) ≡ none → Accepted bad K D m places values zs hs xs
+accepted bad K D M T m places values zs hs xs a b c d e =
     let l = lengths-pass m places values (length hs) (length xs) b in
     record {
-      shallow = settings-pass D M T a;
+      shallow = settings-pass K D M T a;
       paired = l .0;
       within = l .1;
       batched = l .2;
-      valid = map-passes D zs c;
+      valid = map-passes K D zs c;
       cells = d;
       room = space-passes places m (length hs) e;
     }
 
-pub counts-accepted : (D M : ℕ) (T : Float) (m places values : ℕ) (zs vs hs ns : List ℕ) → countsRefusal D M T m places values zs vs hs ns ≡ none
-    → Accepted never D m places values zs hs ns × (sumOf vs + sumOf ns ≤ 4294967295)
+pub counts-accepted : (K D M : ℕ) (T : Float) (m places values : ℕ) (zs vs hs ns : List ℕ) → countsRefusal K D M T m places values zs vs hs ns ≡ none
+    → Accepted never K D m places values zs hs ns × (sumOf vs + sumOf ns ≤ 4294967295)
 unfolding countsRefusal
-counts-accepted D M T m places values zs vs hs ns e =
+counts-accepted K D M T m places values zs vs hs ns e =
     let a = or-else-none _ _ e in
     let b = or-else-none _ _ (a .1) in
     let c = or-else-none _ _ (b .1) in
     let d = or-else-none _ _ (c .1) in
     let f = or-else-none _ _ (d .1) in
-    (accepted never D M T m places values zs hs ns (a .0) (b .0) (c .0) (d .0) (f .1), total-fits (sumOf vs) ns (f .0))
+    (accepted never K D M T m places values zs hs ns (a .0) (b .0) (c .0) (d .0) (f .1), total-fits (sumOf vs) ns (f .0))
 
 -- ---- rows 1 to 5 as one check
-pub record HeldPassed (D m places values hashes batch : ℕ) : Type 0 where
-  pub shallow : D ≤ 29
+pub record HeldPassed (K D m places values hashes batch : ℕ) : Type 0 where
+  pub shallow : D ≤ K
   pub paired : places ≡ values
   pub within : m ≤ places
   pub batched : hashes ≡ batch
 
-pub held-passes : (D M : ℕ) (T : Float) (m places values : ℕ) (zs : List ℕ) (hashes batch : ℕ) → heldRefusal D M T m places values zs hashes batch ≡ none
-    → HeldPassed D m places values hashes batch
+pub held-passes : (K D M : ℕ) (T : Float) (m places values : ℕ) (zs : List ℕ) (hashes batch : ℕ) → heldRefusal K D M T m places values zs hashes batch ≡ none
+    → HeldPassed K D m places values hashes batch
 unfolding heldRefusal
-held-passes D M T m places values zs hashes batch e =
+held-passes K D M T m places values zs hashes batch e =
     let a = or-else-none _ _ e in
     let l = lengths-pass m places values hashes batch (or-else-none _ _ (a .1) .0) in
-    record { shallow = settings-pass D M T (a .0); paired = l .0; within = l .1; batched = l .2 }
+    record { shallow = settings-pass K D M T (a .0); paired = l .0; within = l .1; batched = l .2 }
 
 -- The refusals of an add call are those five rows and then the others.
-pub counts-after-held : (D M : ℕ) (T : Float) (m places values : ℕ) (zs vs hs ns : List ℕ)
-    → countsRefusal D M T m places values zs vs hs ns
-    ≡ orElse (heldRefusal D M T m places values zs (length hs) (length ns))
-    (orElse (cellsRefusal never D (mapEnd 29 D zs) 0 hs ns) (orElse (totalRefusal (sumOf vs) ns) (spaceRefusal places m (length hs))))
+pub counts-after-held : (K D M : ℕ) (T : Float) (m places values : ℕ) (zs vs hs ns : List ℕ)
+    → countsRefusal K D M T m places values zs vs hs ns
+    ≡ orElse (heldRefusal K D M T m places values zs (length hs) (length ns))
+    (orElse (cellsRefusal never D (mapEnd K D zs) 0 hs ns) (orElse (totalRefusal (sumOf vs) ns) (spaceRefusal places m (length hs))))
 unfolding countsRefusal heldRefusal
-counts-after-held D M T m places values zs vs hs ns = grouped (settingsRefusal D M T) (lengthsRefusal m places values (length hs) (length ns)) (mapRefusal (firstFault 29 D zs)) _
+counts-after-held K D M T m places values zs vs hs ns = grouped (settingsRefusal K D M T) (lengthsRefusal m places values (length hs) (length ns)) (mapRefusal (firstFault K D zs)) _
 
 pub densities-after-held : (D M : ℕ) (T : Float) (m places values : ℕ) (zs : List ℕ) (vs : List Float) (hs : List ℕ) (xs : List Float)
     → densitiesRefusal D M T m places values zs vs hs xs
-    ≡ orElse (heldRefusal D M T m places values zs (length hs) (length xs))
+    ≡ orElse (heldRefusal 29 D M T m places values zs (length hs) (length xs))
     (orElse (densityRefusal 0 vs) (orElse (cellsRefusal invalidDensity D (mapEnd 29 D zs) 0 hs xs) (spaceRefusal places m (length hs))))
 unfolding densitiesRefusal heldRefusal
-densities-after-held D M T m places values zs vs hs xs = grouped (settingsRefusal D M T) (lengthsRefusal m places values (length hs) (length xs)) (mapRefusal (firstFault 29 D zs)) _
+densities-after-held D M T m places values zs vs hs xs = grouped (settingsRefusal 29 D M T) (lengthsRefusal m places values (length hs) (length xs)) (mapRefusal (firstFault 29 D zs)) _
 
 -- A valid map stands in its places.
 pub valid-stands : {A : Type 0} (K D m : ℕ) (zs : List ℕ) (vs : List A) → m ≤ length zs → m ≤ length vs → ValidMap K D (take m zs) → Stands K m zs vs
@@ -103,11 +103,11 @@ valid-stands K D m zs vs p q v = record {
 }
 
 -- What is accepted may be pushed: the map stands, there is room for the batch, and its cells rise.
-pub may-push : {A : Type 0} {bad : A → Bool} {D m : ℕ} {zs : List ℕ} {vs : List A} {hs : List ℕ} {xs : List A} → Accepted bad D m (length zs) (length vs) (take m zs) hs xs
-    → (Stands 29 m zs vs × (D ≤ 29) × (length hs ≡ length xs) × (m + length hs ≤ length zs) × (m + length hs ≤ length vs)) × Rising D hs
-may-push {A} {bad} {D} {m} {zs} {vs} {hs} {xs} a =
-    let stands = valid-stands 29 D m zs vs (a .within) (omega (arith, a .within, a .paired)) (a .valid) in
-    ((stands, a .shallow, a .batched, a .room, omega (arith, a .room, a .paired)), cells-pass bad D (mapEnd 29 D (take m zs)) 0 hs xs (a .batched) (a .cells))
+pub may-push : {A : Type 0} {bad : A → Bool} {K D m : ℕ} {zs : List ℕ} {vs : List A} {hs : List ℕ} {xs : List A} → Accepted bad K D m (length zs) (length vs) (take m zs) hs xs
+    → (Stands K m zs vs × (D ≤ K) × (length hs ≡ length xs) × (m + length hs ≤ length zs) × (m + length hs ≤ length vs)) × Rising D hs
+may-push {A} {bad} {K} {D} {m} {zs} {vs} {hs} {xs} a =
+    let stands = valid-stands K D m zs vs (a .within) (omega (arith, a .within, a .paired)) (a .valid) in
+    ((stands, a .shallow, a .batched, a .room, omega (arith, a .room, a .paired)), cells-pass bad D (mapEnd K D (take m zs)) 0 hs xs (a .batched) (a .cells))
 
 -- The total of a map is the sum of the counts in its places.
 pub held-total : (K m : ℕ) (zs vs : List ℕ) → Stands K m zs vs → totalOf (held K m zs vs) ≡ sumOf (take m vs)
@@ -166,19 +166,19 @@ module _ {A R X : Type 0} (g : Calls A R X) (u : A) (b : Buffers A) where
   call-left c e n zs vs zs′ vs′ w lz lv ez ev = rw e (map-left _ n zs vs zs′ vs′ (w .stands) (w .is) lz lv ez ev)
 
 -- The same for counts, with their total.
-pub counts-left : (D M : ℕ) (T : Float) (m : ℕ) (zs vs hs ns : List ℕ) → countsRefusal D M T m (length zs) (length vs) (take m zs) (take m vs) hs ns ≡ none
-    → (n sum : ℕ) (zs₁ vs₁ zs₂ vs₂ : List ℕ) → Added (acceptCounts M T) 29 m (batch D hs ns) zs vs n zs₁ vs₁ → length zs₁ ≡ length zs → length vs₁ ≡ length vs
+pub counts-left : (K D M : ℕ) (T : Float) (m : ℕ) (zs vs hs ns : List ℕ) → countsRefusal K D M T m (length zs) (length vs) (take m zs) (take m vs) hs ns ≡ none
+    → (n sum : ℕ) (zs₁ vs₁ zs₂ vs₂ : List ℕ) → Added (acceptCounts M T) K m (batch D hs ns) zs vs n zs₁ vs₁ → length zs₁ ≡ length zs → length vs₁ ≡ length vs
     → zs₂ ≡ take n zs₁ ++ replicate (length zs₁ - n) 0 → vs₂ ≡ take n vs₁ ++ replicate (length vs₁ - n) 0 → sumOf (take m vs) + sumOf ns ≡ sum
-    → (CountsAdded.Added n sum, zs₂, vs₂) ≡ addCounts D M T m zs vs hs ns
+    → (CountsAdded.Added n sum, zs₂, vs₂) ≡ addCounts K D M T m zs vs hs ns
 unfolding addCounts
-counts-left D M T m zs vs hs ns e n sum zs₁ vs₁ zs₂ vs₂ w lz lv ez ev es =
-    let a = counts-accepted D M T m (length zs) (length vs) (take m zs) (take m vs) hs ns e .0 in
-    let s = valid-stands 29 D m zs vs (a .within) (omega (arith, a .within, a .paired)) (a .valid) in
-    let k : n ≡ length (held 29 n zs₁ vs₁) = sym (held-length 29 0 n zs₁ vs₁ (w .stands)) in
-    let t : sum ≡ totalOf (held 29 n zs₁ vs₁) =
-    sym es ∙ ap₂ _+_ (sym (held-total 29 m zs vs s)) (sym (batch-total D hs ns (a .batched)))
-    ∙ sym (run-total (acceptCounts M T) (λ x. x) (λ d h k0 k1 k2 k3 x q. accepted-count-is-sum M T d h k0 k1 k2 k3 x q) (held 29 m zs vs) (batch D hs ns))
+counts-left K D M T m zs vs hs ns e n sum zs₁ vs₁ zs₂ vs₂ w lz lv ez ev es =
+    let a = counts-accepted K D M T m (length zs) (length vs) (take m zs) (take m vs) hs ns e .0 in
+    let s = valid-stands K D m zs vs (a .within) (omega (arith, a .within, a .paired)) (a .valid) in
+    let k : n ≡ length (held K n zs₁ vs₁) = sym (held-length K 0 n zs₁ vs₁ (w .stands)) in
+    let t : sum ≡ totalOf (held K n zs₁ vs₁) =
+    sym es ∙ ap₂ _+_ (sym (held-total K m zs vs s)) (sym (batch-total D hs ns (a .batched)))
+    ∙ sym (run-total (acceptCounts M T) (λ x. x) (λ d h k0 k1 k2 k3 x q. accepted-count-is-sum M T d h k0 k1 k2 k3 x q) (held K m zs vs) (batch D hs ns))
     ∙ sym (ap totalOf (w .is)) in
     ap₂ (λ (k t : ℕ). (CountsAdded.Added k t, zs₂, vs₂)) k t
     ∙ ap (λ (r : Buffers ℕ × Answer Refusal Report). (countsAdded (r .1), r .0 .zuniqs, r .0 .values))
-    (call-left (countCalls D M T) 0 (record { number = m; zuniqs = zs; values = vs }) (record { hashes = hs; values = ns }) e n zs₁ vs₁ zs₂ vs₂ w lz lv ez ev)
+    (call-left (countCalls K D M T) 0 (record { number = m; zuniqs = zs; values = vs }) (record { hashes = hs; values = ns }) e n zs₁ vs₁ zs₂ vs₂ w lz lv ez ev)

@@ -94,9 +94,9 @@ pub or-false-both : (a b : Bool) → (a || b) ≡ false → (a ≡ false) × (b 
 or-false-both true b e = absurd (true≢false e)
 or-false-both false b e = (refl, e)
 
-pub settings-pass : (D M : ℕ) (T : Float) → settingsRefusal D M T ≡ none → D ≤ 29
+pub settings-pass : (K D M : ℕ) (T : Float) → settingsRefusal K D M T ≡ none → D ≤ K
 unfolding settingsRefusal
-settings-pass D M T e = ltb-false 29 D (refused-if-none _ _ (or-else-none _ _ e .0))
+settings-pass K D M T e = ltb-false K D (refused-if-none _ _ (or-else-none _ _ e .0))
 
 pub lengths-pass : (m zs vs hs batch : ℕ) → lengthsRefusal m zs vs hs batch ≡ none → (zs ≡ vs) × (m ≤ zs) × (hs ≡ batch)
 unfolding lengthsRefusal
@@ -105,9 +105,9 @@ lengths-pass m zs vs hs batch e =
     let d = or-false-both (ltb zs m) (not (eqb hs batch)) (b .1) in
     (eqb-true zs vs (not-false _ (b .0)), ltb-false zs m (d .0), eqb-true hs batch (not-false _ (d .1)))
 
-pub map-passes : (D : ℕ) (zs : List ℕ) → mapRefusal (firstFault 29 D zs) ≡ none → ValidMap 29 D zs
+pub map-passes : (K D : ℕ) (zs : List ℕ) → mapRefusal (firstFault K D zs) ≡ none → ValidMap K D zs
 unfolding mapRefusal
-map-passes D zs e = no-fault-iff-valid 29 D zs .0 (go (firstFault 29 D zs) e)
+map-passes K D zs e = no-fault-iff-valid K D zs .0 (go (firstFault K D zs) e)
   where
     go : (f : FirstFault) → mapRefusal f ≡ none → f ≡ FirstFault.Nothing
     go FirstFault.Nothing q = refl

@@ -32,7 +32,7 @@ unfolding densityRefusal
 densities-end i vs p = rw (drop-of-length-le vs p) refl
 
 pub densities-accepted : (D M : ℕ) (T : Float) (m places values : ℕ) (zs : List ℕ) (vs : List Float) (hs : List ℕ) (xs : List Float)
-    → densitiesRefusal D M T m places values zs vs hs xs ≡ none → Accepted invalidDensity D m places values zs hs xs
+    → densitiesRefusal D M T m places values zs vs hs xs ≡ none → Accepted invalidDensity 29 D m places values zs hs xs
 unfolding densitiesRefusal
 densities-accepted D M T m places values zs vs hs xs e =
     let a = or-else-none _ _ e in
@@ -40,7 +40,7 @@ densities-accepted D M T m places values zs vs hs xs e =
     let c = or-else-none _ _ (b .1) in
     let d = or-else-none (densityRefusal 0 vs) _ (c .1) in
     let f = or-else-none _ _ (d .1) in
-    accepted invalidDensity D M T m places values zs hs xs (a .0) (b .0) (c .0) (f .0) (f .1)
+    accepted invalidDensity 29 D M T m places values zs hs xs (a .0) (b .0) (c .0) (f .0) (f .1)
 
 -- What an accepted call leaves, told by the definition.
 pub densities-left : (D M : ℕ) (T : Float) (m : ℕ) (zs : List ℕ) (vs : List Float) (hs : List ℕ) (xs : List Float)

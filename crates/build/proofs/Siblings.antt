@@ -1,12 +1,11 @@
 -- Adding four siblings at once, for every type of values and every merger. Assumes nothing.
 use mathlib.Core.Path.{_≡_, refl, ap, sym, _∙_}
 use mathlib.Core.Bool.{true, _&&_}
-use mathlib.Core.List.{List, [], _∷_, reverseAux}
+use mathlib.Core.List.{List, _∷_, reverseAux}
 use mathlib.Core.Option.{Option, none, some, Option·map}
-use Prim.Native.Nat.{ℕ, suc, _+_, _*_, _/_, _%_, _-_, _^_, _≤_, _<_}
-use native.Mathlib.Nat.{pow-le-pow-right}
+use Prim.Native.Nat.{ℕ, suc, _+_, _*_, _/_, _%_, _-_, _≤_, _<_}
 use native.Mathlib.Omega.{arith}
-use lib.Dec.{eqb, leb, ltb}
+use lib.Dec.{leb, ltb}
 use lib.ListN.{length, getD, set, length-set}
 use borrow.Author.Tests.{leb-true, ltb-true, eqb-true}
 use Rattle.zuniq.specs.Cells.{nHash}
@@ -18,11 +17,6 @@ use Rattle.build.specs.Buffers.{held}
 use Rattle.build.specs.Standing.{Stands, Rising, siblingsFrom, siblings, Collapsed, Pushed, Added}
 use Rattle.build.proofs.Places.{Stored, stored, behind-trans}
 use Rattle.build.proofs.Steps.{quad, Stepped, stepped, step-is, step-quad, collapse-stops, collapse-steps}
-
--- A hash fits 64 bits, and so do those of its siblings.
-pub hash-fits : (d h : ℕ) → d ≤ 29 → h < nHash d → h + 3 < 2 ^ 64
-unfolding nHash
-hash-fits d h u v = let p : 4 ^ d ≤ 4 ^ 29 = pow-le-pow-right {n = 4} (omega arith) {i = d} {j = 29} u in omega arith
 
 -- Where hashes rise, the first and the fourth tell four siblings, which have a parent.
 pub record AreSiblings (D : ℕ) (hs : List ℕ) (i : ℕ) : Type 0 where

@@ -57,9 +57,9 @@ unfolding end
 end-starts K D d h u v = ap (λ (n : ℕ). start K D (n * 4 ^ (D - d))) (add-one h) ∙ sym (start-at-depth K d D u v (suc h)) ∙ sym (end-is-next-start K d h)
 
 -- The last entry of a map of the sky ends in the sky.
-last-end-le : {A : Type 0} (s : List (Entry A)) → Falls 29 0 (nHash 29) s → lastEnd 29 s ≤ nHash 29
-last-end-le [] f = omega arith
-last-end-le (e ∷ s) f = f .1
+last-end-le : {A : Type 0} (K : ℕ) (s : List (Entry A)) → Falls K 0 (nHash K) s → lastEnd K s ≤ nHash K
+last-end-le K [] f = omega arith
+last-end-le K (e ∷ s) f = f .1
 
 -- It is the end of its last entry, as a hash of the map's depth.
 map-end-is : {A : Type 0} (K D : ℕ) (s : List (Entry A)) → D ≤ K → Falls K 0 (nHash K) s → ValidMap K D (laid (zuniqOf K) s) → start K D (mapEnd K D (laid (zuniqOf K) s)) ≡ lastEnd K s
@@ -77,20 +77,20 @@ map-end-is K D (e ∷ s) u f v =
     ap (start K D) last ∙ end-starts K D d h low u
 
 -- ---- the calls
-accepted-fine : {A : Type 0} (bad : A → Bool) (D places values : ℕ) (s : List (Entry A)) (hs : List ℕ) (xs : List A) → Falls 29 0 (nHash 29) s
-    → Accepted bad D (length s) places values (laid (zuniqOf 29) s) hs xs → Fine 29 D places values s (batch D hs xs)
-accepted-fine bad D places values s hs xs f a =
-    let e = map-end-is 29 D s (a .shallow) f (a .valid) in
-    let top : lastEnd 29 s ≤ nHash 29 = last-end-le s f in
+accepted-fine : {A : Type 0} (bad : A → Bool) (K D places values : ℕ) (s : List (Entry A)) (hs : List ℕ) (xs : List A) → Falls K 0 (nHash K) s
+    → Accepted bad K D (length s) places values (laid (zuniqOf K) s) hs xs → Fine K D places values s (batch D hs xs)
+accepted-fine bad K D places values s hs xs f a =
+    let e = map-end-is K D s (a .shallow) f (a .valid) in
+    let top : lastEnd K s ≤ nHash K = last-end-le K s f in
     record {
       deep = a .shallow;
       same = a .paired;
-      rises = subst (λ (n : ℕ). Rises 29 n (nHash 29) (batch D hs xs)) e (batch-rises bad 29 D _ 0 hs xs (a .shallow) (subst (λ (n : ℕ). n ≤ nHash 29) (sym e) top) (a .cells));
+      rises = subst (λ (n : ℕ). Rises K n (nHash K) (batch D hs xs)) e (batch-rises bad K D _ 0 hs xs (a .shallow) (subst (λ (n : ℕ). n ≤ nHash K) (sym e) top) (a .cells));
       room = omega (arith, a .room, length-batch D hs xs (a .batched));
     }
 
-pub count-calls-sound : (D M : ℕ) (T : Float) → Sound (countCalls D M T)
-count-calls-sound D M T zs vs s c f q = accepted-fine _ D zs vs s (c .hashes) (c .values) f (counts-accepted D M T _ zs vs _ _ (c .hashes) (c .values) q .0)
+pub count-calls-sound : (K D M : ℕ) (T : Float) → Sound (countCalls K D M T)
+count-calls-sound K D M T zs vs s c f q = accepted-fine _ K D zs vs s (c .hashes) (c .values) f (counts-accepted K D M T _ zs vs _ _ (c .hashes) (c .values) q .0)
 
 pub density-calls-sound : (D M : ℕ) (T : Float) → Sound (densityCalls D M T)
-density-calls-sound D M T zs vs s c f q = accepted-fine _ D zs vs s (c .hashes) (c .values) f (densities-accepted D M T _ zs vs _ _ (c .hashes) (c .values) q)
+density-calls-sound D M T zs vs s c f q = accepted-fine _ 29 D zs vs s (c .hashes) (c .values) f (densities-accepted D M T _ zs vs _ _ (c .hashes) (c .values) q)

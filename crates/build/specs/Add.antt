@@ -1,12 +1,12 @@
 -- Section 4 of the scope: the add calls. A call's refusals are one definition, the first that applies in the order of the
 -- table "Refusals in checking order"; its answer and both buffers afterwards are another.
-use mathlib.Core.Bool.{Bool, true, false, _||_, not, cond}
+use mathlib.Core.Bool.{Bool, true, false, _||_, not}
 use mathlib.Core.List.{List, [], _∷_}
 use mathlib.Core.Option.{Option, none, some}
 use Prim.Native.Nat.{ℕ, _+_, min}
 use lib.Dec.{eqb, leb, ltb}
 use lib.Ieee.{Float, isNan}
-use lib.ListN.{length, take}
+use lib.ListN.{length}
 use Rattle.zuniq.specs.Cells.{nHash, end}
 use Rattle.zuniq.specs.Codec.{decode}
 use Rattle.zuniq.specs.declared.Decoded.{Decoded}
@@ -26,10 +26,11 @@ abbrev pub checkOf : Option Refusal → Check
 checkOf none = Check.Passed
 checkOf (some r) = Check.Refused r
 
--- "1. The depth is over 29"; "2. M is over 29"; "3. T is NaN". Of row 1 note 1 of 02: "Number 1 then no longer covers a depth of 0."
-unfoldable pub settingsRefusal : ℕ → ℕ → Float → Option Refusal
-settingsRefusal D M T =
-    orElse (refusedIf (ltb 29 D) Refusal.DepthOutOfRange)
+-- "1. The depth is over 29"; "2. M is over 29"; "3. T is NaN". Of row 1 note 1 of 02: "Number 1 then no longer covers a depth of 0", and
+-- note 2: "For narrow maps number 1 means a depth over 13": over K, the largest of the zuniq type. Note 2 leaves row 2 alone.
+unfoldable pub settingsRefusal : ℕ → ℕ → ℕ → Float → Option Refusal
+settingsRefusal K D M T =
+    orElse (refusedIf (ltb K D) Refusal.DepthOutOfRange)
     (orElse (refusedIf (ltb 29 M) Refusal.DepthThresholdOutOfRange)
     (refusedIf (isNan T) Refusal.Chi2ThresholdIsNan))
 
@@ -84,11 +85,11 @@ mapRefusal (FirstFault.At place fault) = some (Refusal.InvalidMap place)
 
 -- rows 1 to 5, which both add calls have: m is the held number, `places` and `values` are the lengths of the buffers, zs the held
 -- zuniqs, `hashes` and `batch` the lengths of the batch's two lists
-unfoldable pub heldRefusal : ℕ → ℕ → Float → ℕ → ℕ → ℕ → List ℕ → ℕ → ℕ → Option Refusal
-heldRefusal D M T m places values zs hashes batch =
-    orElse (settingsRefusal D M T)
+unfoldable pub heldRefusal : ℕ → ℕ → ℕ → Float → ℕ → ℕ → ℕ → List ℕ → ℕ → ℕ → Option Refusal
+heldRefusal K D M T m places values zs hashes batch =
+    orElse (settingsRefusal K D M T)
     (orElse (lengthsRefusal m places values hashes batch)
-    (mapRefusal (firstFault 29 D zs)))
+    (mapRefusal (firstFault K D zs)))
 
 -- where the held map ends, or why it is refused
 abbrev pub heldOr : Option Refusal → ℕ → HeldMap

@@ -12,7 +12,7 @@ use Rattle.build.specs.declared.counts.Total.{Total}
 use Rattle.build.specs.declared.counts.CountsAdded.{CountsAdded}
 use Rattle.build.specs.Map.{Entry, orElse}
 use Rattle.build.specs.Promises.{total}
-use Rattle.build.specs.Calls.{Buffers, Batch, Answer, Calls, addCall}
+use Rattle.build.specs.Calls.{Answer, Calls, addCall}
 use Rattle.build.specs.Add.{settingsRefusal, lengthsRefusal, mapRefusal, mapEnd, cellsRefusal, sumOf, totalRefusal, spaceRefusal}
 
 -- the sum of the counts of a map
@@ -29,13 +29,14 @@ abbrev pub never : ℕ → Bool
 never n = false
 
 -- The refusals of adding counts, in the order of the table: 1 to 5, 7 and 8 cell by cell, 10, 11. m is the held number, `places`
--- and `values` are the lengths of the buffers, zs and vs the held zuniqs and counts, hs and ns the batch.
-unfoldable pub countsRefusal : ℕ → ℕ → Float → ℕ → ℕ → ℕ → List ℕ → List ℕ → List ℕ → List ℕ → Option Refusal
-countsRefusal D M T m places values zs vs hs ns =
-    orElse (settingsRefusal D M T)
+-- and `values` are the lengths of the buffers, zs and vs the held zuniqs and counts, hs and ns the batch. K is the largest depth of the
+-- zuniq type: 29 for 64 bits, 13 for 32.
+unfoldable pub countsRefusal : ℕ → ℕ → ℕ → Float → ℕ → ℕ → ℕ → List ℕ → List ℕ → List ℕ → List ℕ → Option Refusal
+countsRefusal K D M T m places values zs vs hs ns =
+    orElse (settingsRefusal K D M T)
     (orElse (lengthsRefusal m places values (length hs) (length ns))
-    (orElse (mapRefusal (firstFault 29 D zs))
-    (orElse (cellsRefusal never D (mapEnd 29 D zs) 0 hs ns)
+    (orElse (mapRefusal (firstFault K D zs))
+    (orElse (cellsRefusal never D (mapEnd K D zs) 0 hs ns)
     (orElse (totalRefusal (sumOf vs) ns)
     (spaceRefusal places m (length hs))))))
 
@@ -45,13 +46,13 @@ pub record Report : Type 0 where
   pub sum : ℕ
 
 -- "a list of count add calls with one D, M and T"
-abbrev pub countCalls : ℕ → ℕ → Float → Calls ℕ Refusal Report
-countCalls D M T = record {
-  largest = 29;
+abbrev pub countCalls : ℕ → ℕ → ℕ → Float → Calls ℕ Refusal Report
+countCalls K D M T = record {
+  largest = K;
   D = D;
   filler = 0;
   accept = acceptCounts M T;
-  refusal = λ m places values zs vs c. countsRefusal D M T m places values zs vs (c .hashes) (c .values);
+  refusal = λ m places values zs vs c. countsRefusal K D M T m places values zs vs (c .hashes) (c .values);
   report = λ s. record { entries = length s; sum = totalOf s };
 }
 
@@ -61,7 +62,7 @@ countsAdded (Answer.refused r) = CountsAdded.Refused r
 countsAdded (Answer.accepted x) = CountsAdded.Added (x .entries) (x .sum)
 
 -- The answer and both buffers afterwards.
-unfoldable pub addCounts : ℕ → ℕ → Float → ℕ → List ℕ → List ℕ → List ℕ → List ℕ → CountsAdded × List ℕ × List ℕ
-addCounts D M T m zs vs hs ns =
-    let t = addCall (countCalls D M T) (record { number = m; zuniqs = zs; values = vs }) (record { hashes = hs; values = ns }) in
+unfoldable pub addCounts : ℕ → ℕ → ℕ → Float → ℕ → List ℕ → List ℕ → List ℕ → List ℕ → CountsAdded × List ℕ × List ℕ
+addCounts K D M T m zs vs hs ns =
+    let t = addCall (countCalls K D M T) (record { number = m; zuniqs = zs; values = vs }) (record { hashes = hs; values = ns }) in
     (countsAdded (t .1), t .0 .zuniqs, t .0 .values)

@@ -22,7 +22,7 @@ densityRefusal i (v ∷ vs) = orElse (refusedIf (invalidDensity v) (Refusal.Inva
 -- and `values` are the lengths of the buffers, zs and vs the held zuniqs and densities, hs and xs the batch.
 unfoldable pub densitiesRefusal : ℕ → ℕ → Float → ℕ → ℕ → ℕ → List ℕ → List Float → List ℕ → List Float → Option Refusal
 densitiesRefusal D M T m places values zs vs hs xs =
-    orElse (settingsRefusal D M T)
+    orElse (settingsRefusal 29 D M T)
     (orElse (lengthsRefusal m places values (length hs) (length xs))
     (orElse (mapRefusal (firstFault 29 D zs))
     (orElse (densityRefusal 0 vs)

@@ -12,9 +12,9 @@
 // their answers, and what they share: checks, siblings and the free part.
 ghost use mathlib.Core.Path.{_≡_};
 ghost use mathlib.Core.Bool.{_&&_};
-ghost use Prim.Native.Nat.{ℕ, _+_, _-_, _*_, _^_, _≤_, _<_};
+ghost use Prim.Native.Nat.{_+_, _-_, _*_, _^_, _≤_, _<_};
 ghost use lib.Dec.{ltb};
-ghost use lib.ListN.{length, getD, take, replicate};
+ghost use lib.ListN.{length, getD, take};
 ghost use Rattle.zuniq.specs.Codec.{IsZuniqOf};
 ghost use Rattle.mom.specs.Map.{firstFault, ValidMap};
 ghost use Rattle.build.specs.Standing.{quadAt, siblingsFrom};
@@ -54,9 +54,14 @@ pub fn check_held(
     hashes: usize,
     batch: usize,
 ) -> HeldMap
-    ensures { λ r. ⌜ r ≡ heldOr (heldRefusal depth «depth_threshold» «chi2_threshold» held (length (now (zuniqs .entry))) values (take held (now (zuniqs .entry))) hashes batch) (mapEnd 29 depth (take held (now (zuniqs .entry)))) ⌝ }
+    ensures { λ r. ⌜ r ≡ heldOr (heldRefusal 29 depth «depth_threshold» «chi2_threshold» held (length (now (zuniqs .entry))) values (take held (now (zuniqs .entry))) hashes batch) (mapEnd 29 depth (take held (now (zuniqs .entry)))) ⌝ }
 {
-    if let Check::Refused(refusal) = check_settings(depth, depth_threshold, chi2_threshold) {
+    if let Check::Refused(refusal) = check_settings(
+        Zuniq64::MAX_DEPTH,
+        depth,
+        depth_threshold,
+        chi2_threshold,
+    ) {
         return HeldMap::Refused(refusal);
     }
     if let Check::Refused(refusal) = check_lengths(held, zuniqs.len(), values, hashes, batch) {
@@ -69,11 +74,12 @@ pub fn check_held(
     HeldMap::EndsAt(end_of_map(depth, map))
 }
 
-// Rows 1 to 3.
-fn check_settings(depth: u8, depth_threshold: u8, chi2_threshold: f64) -> Check
-    ensures { λ r. ⌜ r ≡ checkOf (settingsRefusal depth «depth_threshold» «chi2_threshold») ⌝ }
+// Rows 1 to 3, of maps whose zuniqs have this largest depth. A shallowest parent depth up to 29 is one
+// for all of them.
+pub fn check_settings(max_depth: u8, depth: u8, depth_threshold: u8, chi2_threshold: f64) -> Check
+    ensures { λ r. ⌜ r ≡ checkOf (settingsRefusal «max_depth» depth «depth_threshold» «chi2_threshold») ⌝ }
 {
-    if depth > Zuniq64::MAX_DEPTH {
+    if depth > max_depth {
         return Check::Refused(Refusal::DepthOutOfRange);
     }
     if depth_threshold > Zuniq64::MAX_DEPTH {
@@ -86,7 +92,13 @@ fn check_settings(depth: u8, depth_threshold: u8, chi2_threshold: f64) -> Check
 }
 
 // Row 4.
-fn check_lengths(held: usize, zuniqs: usize, values: usize, hashes: usize, batch: usize) -> Check
+pub fn check_lengths(
+    held: usize,
+    zuniqs: usize,
+    values: usize,
+    hashes: usize,
+    batch: usize,
+) -> Check
     ensures { λ r. ⌜ r ≡ checkOf (lengthsRefusal held zuniqs values hashes batch) ⌝ }
 {
     if zuniqs != values {

@@ -45,7 +45,7 @@ pub fn add_counts(
     hashes: &[u64],
     batch: &[u32],
 ) -> CountsAdded
-    ensures { λ r. ⌜ (r, now (zuniqs .exit), now (counts .exit)) ≡ addCounts depth «depth_threshold» «chi2_threshold» held (now (zuniqs .entry)) (now (counts .entry)) (now (hashes .entry)) (now (batch .entry)) ⌝ }
+    ensures { λ r. ⌜ (r, now (zuniqs .exit), now (counts .exit)) ≡ addCounts 29 depth «depth_threshold» «chi2_threshold» held (now (zuniqs .entry)) (now (counts .entry)) (now (hashes .entry)) (now (batch .entry)) ⌝ }
 {
     let checked = check(
         depth,
@@ -88,7 +88,7 @@ fn check(
     hashes: &[u64],
     batch: &[u32],
 ) -> Total
-    ensures { λ r. ⌜ r ≡ totalOr (countsRefusal depth «depth_threshold» «chi2_threshold» held (length (now (zuniqs .entry))) (length (now (counts .entry))) (take held (now (zuniqs .entry))) (take held (now (counts .entry))) (now (hashes .entry)) (now (batch .entry))) (sumOf (take held (now (counts .entry))) + sumOf (now (batch .entry))) ⌝ }
+    ensures { λ r. ⌜ r ≡ totalOr (countsRefusal 29 depth «depth_threshold» «chi2_threshold» held (length (now (zuniqs .entry))) (length (now (counts .entry))) (take held (now (zuniqs .entry))) (take held (now (counts .entry))) (now (hashes .entry)) (now (batch .entry))) (sumOf (take held (now (counts .entry))) + sumOf (now (batch .entry))) ⌝ }
 {
     match check_held(
         depth,
@@ -354,7 +354,7 @@ fn collapse(
 }
 
 // What becomes of the last four of n counts, the last of which is given.
-fn merge_last(
+pub fn merge_last(
     counts: &[u32],
     n: usize,
     last: u32,
@@ -417,8 +417,7 @@ fn capped(sum: u64) -> u64
 }
 
 // Row 10: the total of the held counts and the batch, if it fits. Only a refusal asks for the place.
-fn check_total(held: u64, batch: &[u32]) -> Total
-    requires { ⌜ held ≤ 4294967296 ⌝ }
+pub fn check_total(held: u64, batch: &[u32]) -> Total
     ensures { λ r. ⌜ r ≡ totalOr (totalRefusal held (now (batch .entry))) (held + sumOf (now (batch .entry))) ⌝ }
 {
     if held > MAX_COUNT {

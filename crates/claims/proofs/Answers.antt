@@ -1,10 +1,10 @@
 -- What every call answers, in the scope's numbers, places and values: the rows of the table of refusals in their order, and then the
 -- answer. Each law is about the definition that the call's contract cites. Assumes nothing.
-use mathlib.Core.Path.{_≡_, refl, ap, sym, _∙_}
+use mathlib.Core.Path.{_≡_, refl, ap, _∙_}
 use mathlib.Core.Bool.{Bool, true, false, _||_, not, cond}
-use mathlib.Core.List.{List, [], _∷_, reverse}
+use mathlib.Core.List.{List, reverse}
 use mathlib.Core.Option.{Option, none, some}
-use Prim.Native.Nat.{ℕ, _+_, _*_, _/_, _%_}
+use Prim.Native.Nat.{ℕ, _+_, _*_, _/_, _%_, min}
 use lib.Dec.{eqb, leb, ltb}
 use lib.Ieee.{Float, isNan}
 use lib.ListN.{length, take}
@@ -12,7 +12,9 @@ use Rattle.refusal.specs.Told.{Told, refusedBy}
 use Rattle.refusal.specs.declared.Refusal.{Refusal}
 use Rattle.zuniq.specs.Cells.{nHash, overlap}
 use Rattle.zuniq.specs.Codec.{zuniq, cellNumber, encode, decode, overlapOf, overlapTest}
-use Rattle.zuniq.specs.Told.{toldCells, toldZuniq, toldCell, toldOverlap}
+use Rattle.zuniq.specs.Codec32.{encoded32, decoded32}
+use Rattle.zuniq.specs.Told.{toldCells, toldZuniq, toldZuniq32, toldCell, toldCell32, toldOverlap}
+use Rattle.zuniq.specs.declared.Encoded.{Encoded}
 use Rattle.zuniq.specs.declared.Decoded.{Decoded}
 use Rattle.merger.specs.Floats.{invalidDensity}
 use Rattle.merger.specs.Merge.{acceptCounts, acceptDensities, mergeCounts, countMerger, mergeDensities, firstInvalid, densityMerger}
@@ -26,7 +28,7 @@ use Rattle.mom.specs.declared.lookup.Run.{Run}
 use Rattle.build.specs.Map.{Entry, orElse}
 use Rattle.build.specs.Stack.{run}
 use Rattle.build.specs.Buffers.{batch, held}
-use Rattle.build.specs.Calls.{Buffers, Batch, Answer, Calls, answered, addCall}
+use Rattle.build.specs.Calls.{Buffers, Calls, answered, addCall}
 use Rattle.build.specs.Add.{refusedIf, settingsRefusal, lengthsRefusal, mapRefusal, mapEnd, cellsRefusal, sumOf, totalRefusal, spaceRefusal}
 use Rattle.build.specs.Counts.{totalOf, never, countsRefusal, Report, countCalls, countsAdded, addCounts}
 use Rattle.build.specs.Densities.{densityRefusal, densitiesRefusal, densityCalls, densitiesAdded, addDensities}
@@ -35,7 +37,9 @@ use Rattle.combine.specs.Rules.{definedPool, definedProduct}
 use Rattle.combine.specs.Densities.{someNotFinite}
 use Rattle.combine.specs.Pool as Combining
 use Rattle.combine.specs.Pool.{Given, entries, resultDepth, poolKept, productKept, poolCounts, productDensities}
-use Rattle.rows.specs.Rows.{Column, rowSize, lengths, differ, places, rowsToRead, rowsToWrite}
+use Rattle.moving.specs.Moving.{deepRefusal, entriesRefusal, movingRefusal, movedOr, moved}
+use Rattle.moving.specs.Told.{toldMoved}
+use Rattle.rows.specs.Rows.{differ, places, rowsToRead, rowsToWrite}
 use Rattle.rows.specs.Told.{toldRows}
 use Rattle.density.specs.Densities.{densityAt, densityOfCount}
 use Rattle.density.specs.Told.{toldCountDensity}
@@ -68,9 +72,18 @@ unfolding cellNumber
 n-hash-tells d = of-choice toldCells (ltb 29 d) _ _
 
 -- Encoding: 1, 7.
-pub to-zuniq-tells : (d h : ℕ) → toldZuniq (encode 29 d h) ≡ row 1 (ltb 29 d) (row 7 (leb (nHash d) h) (Told.answer (zuniq 29 d h)))
+pub to-zuniq-tells : (K d h : ℕ) → toldZuniq (encode K d h) ≡ row 1 (ltb K d) (row 7 (leb (nHash d) h) (Told.answer (zuniq K d h)))
 unfolding encode
-to-zuniq-tells d h = of-choice toldZuniq (ltb 29 d) _ _ ∙ ap (row 1 (ltb 29 d)) (of-choice toldZuniq (leb (nHash d) h) _ _)
+to-zuniq-tells K d h = of-choice toldZuniq (ltb K d) _ _ ∙ ap (row 1 (ltb K d)) (of-choice toldZuniq (leb (nHash d) h) _ _)
+
+-- Both in u32: an answer tells what it told.
+pub narrow-zuniq-tells : (a : Encoded) → toldZuniq32 (encoded32 a) ≡ toldZuniq a
+narrow-zuniq-tells (Encoded.Zuniq z) = refl
+narrow-zuniq-tells (Encoded.Refused r) = refl
+
+pub narrow-cell-tells : (a : Decoded) → toldCell32 (decoded32 a) ≡ toldCell a
+narrow-cell-tells (Decoded.Cell c) = refl
+narrow-cell-tells Decoded.Nothing = refl
 
 -- The overlap test: 12, place 0 or 1.
 abbrev pub overlapTold : Option (ℕ × ℕ) → Option (ℕ × ℕ) → Told Bool
@@ -78,9 +91,9 @@ overlapTold none r = Told.refused 12 0
 overlapTold (some l) none = Told.refused 12 1
 overlapTold (some l) (some r) = Told.answer (overlap (l .0) (l .1) (r .0) (r .1))
 
-pub are-overlapping-tells : (l r : ℕ) → toldOverlap (overlapTest 29 l r) ≡ overlapTold (toldCell (decode 29 l)) (toldCell (decode 29 r))
+pub are-overlapping-tells : (K l r : ℕ) → toldOverlap (overlapTest K l r) ≡ overlapTold (toldCell (decode K l)) (toldCell (decode K r))
 unfolding overlapTest overlapOf
-are-overlapping-tells l r = go (decode 29 l) (decode 29 r)
+are-overlapping-tells K l r = go (decode K l) (decode K r)
   where
     go : (a b : Decoded) → toldOverlap (overlapOf a b) ≡ overlapTold (toldCell a) (toldCell b)
     go Decoded.Nothing b = refl
@@ -111,9 +124,9 @@ density-merger-tells M T p m0 m1 m2 m3 =
 
 -- ---- sections 3 and 6
 -- The map check: 1.
-pub check-tells : (D : ℕ) (zs : List ℕ) → toldCheck (mapCheck 29 D zs) ≡ row 1 (ltb 29 D) (Told.answer (faultTold (firstFault 29 D zs)))
+pub check-tells : (K D : ℕ) (zs : List ℕ) → toldCheck (mapCheck K D zs) ≡ row 1 (ltb K D) (Told.answer (faultTold (firstFault K D zs)))
 unfolding mapCheck validOr
-check-tells D zs = of-choice toldCheck (ltb 29 D) _ _ ∙ ap (row 1 (ltb 29 D)) (go (firstFault 29 D zs))
+check-tells K D zs = of-choice toldCheck (ltb K D) _ _ ∙ ap (row 1 (ltb K D)) (go (firstFault K D zs))
   where
     go : (f : FirstFault) → toldCheck (validOr f) ≡ Told.answer (faultTold f)
     go FirstFault.Nothing = refl
@@ -124,16 +137,16 @@ abbrev pub notAt : ℕ → Option (ℕ × ℕ) → Bool
 notAt D none = true
 notAt D (some c) = not (eqb (c .0) D)
 
-pub containing-tells : (D : ℕ) (zs : List ℕ) (q : ℕ) → toldContaining (containing 29 D zs q)
-    ≡ row 1 (ltb 29 D) (row 12 (notAt D (toldCell (decode 29 q))) (toldContaining (placeFrom 29 q 0 zs)))
+pub containing-tells : (K D : ℕ) (zs : List ℕ) (q : ℕ) → toldContaining (containing K D zs q)
+    ≡ row 1 (ltb K D) (row 12 (notAt D (toldCell (decode K q))) (toldContaining (placeFrom K q 0 zs)))
 unfolding containing queryAt
-containing-tells D zs q = of-choice toldContaining (ltb 29 D) _ _ ∙ ap (row 1 (ltb 29 D)) (go (decode 29 q))
+containing-tells K D zs q = of-choice toldContaining (ltb K D) _ _ ∙ ap (row 1 (ltb K D)) (go (decode K q))
   where
     swap : (b : Bool) (x y : Containing) → toldContaining (cond b x y) ≡ cond (not b) (toldContaining y) (toldContaining x)
     swap true x y = refl
     swap false x y = refl
 
-    go : (c : Decoded) → toldContaining (queryAt D c (placeFrom 29 q 0 zs)) ≡ row 12 (notAt D (toldCell c)) (toldContaining (placeFrom 29 q 0 zs))
+    go : (c : Decoded) → toldContaining (queryAt D c (placeFrom K q 0 zs)) ≡ row 12 (notAt D (toldCell c)) (toldContaining (placeFrom K q 0 zs))
     go Decoded.Nothing = refl
     go (Decoded.Cell c) = swap (eqb (c .depth) D) _ _
 
@@ -142,13 +155,13 @@ abbrev pub isNothing : Option (ℕ × ℕ) → Bool
 isNothing none = true
 isNothing (some c) = false
 
-pub overlapping-tells : (zs : List ℕ) (q : ℕ) → toldRun (overlapping 29 zs q)
-    ≡ row 12 (isNothing (toldCell (decode 29 q))) (Told.answer (firstFrom 29 q 0 zs, length (overlapped 29 zs q)))
+pub overlapping-tells : (K : ℕ) (zs : List ℕ) (q : ℕ) → toldRun (overlapping K zs q)
+    ≡ row 12 (isNothing (toldCell (decode K q))) (Told.answer (firstFrom K q 0 zs, length (overlapped K zs q)))
 unfolding overlapping runOr
-overlapping-tells zs q = go (decode 29 q)
+overlapping-tells K zs q = go (decode K q)
   where
-    go : (c : Decoded) → toldRun (runOr c (Run.Entries (firstFrom 29 q 0 zs) (length (overlapped 29 zs q))))
-        ≡ row 12 (isNothing (toldCell c)) (Told.answer (firstFrom 29 q 0 zs, length (overlapped 29 zs q)))
+    go : (c : Decoded) → toldRun (runOr c (Run.Entries (firstFrom K q 0 zs) (length (overlapped K zs q))))
+        ≡ row 12 (isNothing (toldCell c)) (Told.answer (firstFrom K q 0 zs, length (overlapped K zs q)))
     go Decoded.Nothing = refl
     go (Decoded.Cell c) = refl
 
@@ -165,45 +178,45 @@ densities-told g none b s = refl
 densities-told g (some r) b s = refl
 
 -- rows 1 to 3 of an add call
-module _ {X : Type 0} (D M : ℕ) (T : Float) (next : Told X) where
-  settings-rows : rowsOf (settingsRefusal D M T) next ≡ row 1 (ltb 29 D) (row 2 (ltb 29 M) (row 3 (isNan T) next))
+module _ {X : Type 0} (K D M : ℕ) (T : Float) (next : Told X) where
+  settings-rows : rowsOf (settingsRefusal K D M T) next ≡ row 1 (ltb K D) (row 2 (ltb 29 M) (row 3 (isNan T) next))
   unfolding settingsRefusal
   settings-rows =
-      in-order (refusedIf (ltb 29 D) Refusal.DepthOutOfRange) _ next
-      ∙ one-row (ltb 29 D) _ _
-      ∙ ap (row 1 (ltb 29 D)) (in-order (refusedIf (ltb 29 M) Refusal.DepthThresholdOutOfRange) _ next
+      in-order (refusedIf (ltb K D) Refusal.DepthOutOfRange) _ next
+      ∙ one-row (ltb K D) _ _
+      ∙ ap (row 1 (ltb K D)) (in-order (refusedIf (ltb 29 M) Refusal.DepthThresholdOutOfRange) _ next
       ∙ one-row (ltb 29 M) _ _
       ∙ ap (row 2 (ltb 29 M)) (one-row (isNan T) _ next))
 
 -- Adding counts: 1 to 5, 7 and 8 cell by cell, 10, 11.
-module _ (D M : ℕ) (T : Float) (m : ℕ) (zs vs hs ns : List ℕ) where
+module _ (K D M : ℕ) (T : Float) (m : ℕ) (zs vs hs ns : List ℕ) where
   abbrev pub countsMade : List (Entry ℕ)
-  countsMade = run (acceptCounts M T) (held 29 m zs vs) (batch D hs ns)
+  countsMade = run (acceptCounts M T) (held K m zs vs) (batch D hs ns)
 
-  pub add-counts-tells : toldCounts (addCounts D M T m zs vs hs ns .0)
-      ≡ row 1 (ltb 29 D)
+  pub add-counts-tells : toldCounts (addCounts K D M T m zs vs hs ns .0)
+      ≡ row 1 (ltb K D)
       (row 2 (ltb 29 M)
       (row 3 (isNan T)
       (row 4 (not (eqb (length zs) (length vs)) || (ltb (length zs) m || not (eqb (length hs) (length ns))))
-      (rowAt 5 (faultyEntry (firstFault 29 D (take m zs)))
-      (rowsOf (cellsRefusal never D (mapEnd 29 D (take m zs)) 0 hs ns)
+      (rowAt 5 (faultyEntry (firstFault K D (take m zs)))
+      (rowsOf (cellsRefusal never D (mapEnd K D (take m zs)) 0 hs ns)
       (rowsOf (totalRefusal (sumOf (take m vs)) ns)
       (row 11 (ltb (length zs) (m + length hs))
       (Told.answer (length countsMade, totalOf countsMade)))))))))
   unfolding addCounts addCall countsRefusal lengthsRefusal spaceRefusal
   add-counts-tells =
-      counts-told (countCalls D M T) (countsRefusal D M T m (length zs) (length vs) (take m zs) (take m vs) hs ns) _ countsMade
-      ∙ in-order (settingsRefusal D M T) _ _
-      ∙ settings-rows D M T _
-      ∙ ap (λ x. row 1 (ltb 29 D) (row 2 (ltb 29 M) (row 3 (isNan T) x)))
+      counts-told (countCalls K D M T) (countsRefusal K D M T m (length zs) (length vs) (take m zs) (take m vs) hs ns) _ countsMade
+      ∙ in-order (settingsRefusal K D M T) _ _
+      ∙ settings-rows K D M T _
+      ∙ ap (λ x. row 1 (ltb K D) (row 2 (ltb 29 M) (row 3 (isNan T) x)))
       (in-order (lengthsRefusal m (length zs) (length vs) (length hs) (length ns)) _ _
       ∙ one-row (not (eqb (length zs) (length vs)) || (ltb (length zs) m || not (eqb (length hs) (length ns)))) _ _
       ∙ ap (row 4 (not (eqb (length zs) (length vs)) || (ltb (length zs) m || not (eqb (length hs) (length ns)))))
-      (in-order (mapRefusal (firstFault 29 D (take m zs))) _ _
-      ∙ map-row (firstFault 29 D (take m zs)) _
-      ∙ ap (rowAt 5 (faultyEntry (firstFault 29 D (take m zs))))
-      (in-order (cellsRefusal never D (mapEnd 29 D (take m zs)) 0 hs ns) _ _
-      ∙ ap (rowsOf (cellsRefusal never D (mapEnd 29 D (take m zs)) 0 hs ns))
+      (in-order (mapRefusal (firstFault K D (take m zs))) _ _
+      ∙ map-row (firstFault K D (take m zs)) _
+      ∙ ap (rowAt 5 (faultyEntry (firstFault K D (take m zs))))
+      (in-order (cellsRefusal never D (mapEnd K D (take m zs)) 0 hs ns) _ _
+      ∙ ap (rowsOf (cellsRefusal never D (mapEnd K D (take m zs)) 0 hs ns))
       (in-order (totalRefusal (sumOf (take m vs)) ns) _ _
       ∙ ap (rowsOf (totalRefusal (sumOf (take m vs)) ns)) (one-row (ltb (length zs) (m + length hs)) _ _)))))
 
@@ -225,8 +238,8 @@ module _ (D M : ℕ) (T : Float) (m : ℕ) (zs : List ℕ) (vs : List Float) (hs
   unfolding addDensities addCall densitiesRefusal lengthsRefusal spaceRefusal
   add-densities-tells =
       densities-told (densityCalls D M T) (densitiesRefusal D M T m (length zs) (length vs) (take m zs) (take m vs) hs xs) _ densitiesMade
-      ∙ in-order (settingsRefusal D M T) _ _
-      ∙ settings-rows D M T _
+      ∙ in-order (settingsRefusal 29 D M T) _ _
+      ∙ settings-rows 29 D M T _
       ∙ ap (λ x. row 1 (ltb 29 D) (row 2 (ltb 29 M) (row 3 (isNan T) x)))
       (in-order (lengthsRefusal m (length zs) (length vs) (length hs) (length xs)) _ _
       ∙ one-row (not (eqb (length zs) (length vs)) || (ltb (length zs) m || not (eqb (length hs) (length xs)))) _ _
@@ -283,7 +296,7 @@ module _ (l r : Given ℕ) (M : ℕ) (T : Float) (zs vs : List ℕ) where
   pool-tells =
       let input = Combining.poolInputRefusal l r M T (length zs) (length vs) in
       let last : Told (ℕ × ℕ) = row 11 (ltb (length zs) (length (poolKept l r))) (Told.answer (length pooledMap, totalOf pooledMap)) in
-      counts-told (countCalls (resultDepth l r) M T) (Combining.poolRefusal l r M T (length zs) (length vs)) _ pooledMap
+      counts-told (countCalls 29 (resultDepth l r) M T) (Combining.poolRefusal l r M T (length zs) (length vs)) _ pooledMap
       ∙ in-order input _ _
       ∙ ap (rowsOf input) (one-row (ltb (length zs) (length (poolKept l r))) _ _)
       ∙ in-order (Combining.settingsRefusal (l .depth) (r .depth) M T) _ last
@@ -362,3 +375,31 @@ write-rows-tells k bytes ls =
 pub density-of-count-tells : (n d : ℕ) → toldCountDensity (densityOfCount 29 n d) ≡ row 1 (ltb 29 d) (Told.answer (densityAt n d))
 unfolding densityOfCount
 density-of-count-tells n d = of-choice toldCountDensity (ltb 29 d) _ _
+
+-- ---- note 2
+moved-told : (o : Option Refusal) (L d : ℕ) (s : List (Entry ℕ)) (ozs ovs : List ℕ) → toldMoved (movedOr o L d s ozs ovs .0) ≡ rowsOf o (Told.answer (d, length s))
+unfolding movedOr
+moved-told none L d s ozs ovs = refl
+moved-told (some r) L d s ozs ovs = refl
+
+-- Moving a map of depth D from the largest depth K to L: 1, 4, 5, 13 "tried after 5", 11.
+module _ (K L D : ℕ) (zs vs ozs ovs : List ℕ) where
+  pub moving-tells : toldMoved (moved K L D zs vs ozs ovs .0)
+      ≡ row 1 (ltb K D)
+      (row 4 (not (eqb (length zs) (length vs)) || (ltb (length zs) 0 || not (eqb (length ozs) (length ovs))))
+      (rowAt 5 (faultyEntry (firstFault K D zs))
+      (rowsOf (deepRefusal K L 0 zs)
+      (row 11 (ltb (length ozs) (0 + length zs))
+      (Told.answer (min D L, length (held K (length zs) zs vs)))))))
+  unfolding moved movingRefusal entriesRefusal lengthsRefusal spaceRefusal
+  moving-tells =
+      moved-told (movingRefusal K L D zs (length vs) (length ozs) (length ovs)) L (min D L) (held K (length zs) zs vs) ozs ovs
+      ∙ in-order (refusedIf (ltb K D) Refusal.DepthOutOfRange) _ _
+      ∙ one-row (ltb K D) _ _
+      ∙ ap (row 1 (ltb K D)) (in-order (lengthsRefusal 0 (length zs) (length vs) (length ozs) (length ovs)) _ _
+      ∙ one-row (not (eqb (length zs) (length vs)) || (ltb (length zs) 0 || not (eqb (length ozs) (length ovs)))) _ _
+      ∙ ap (row 4 (not (eqb (length zs) (length vs)) || (ltb (length zs) 0 || not (eqb (length ozs) (length ovs)))))
+      (in-order (entriesRefusal K L D zs) _ _
+      ∙ in-order (mapRefusal (firstFault K D zs)) _ _
+      ∙ map-row (firstFault K D zs) _
+      ∙ ap (rowAt 5 (faultyEntry (firstFault K D zs))) (ap (rowsOf (deepRefusal K L 0 zs)) (one-row (ltb (length ozs) (0 + length zs)) _ _))))

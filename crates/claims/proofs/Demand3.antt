@@ -48,27 +48,27 @@ abbrev told : Buffers ℕ × List (Answer Refusal Report) → Buffers ℕ × Lis
 told t = (t .0, map countsAdded (t .1))
 
 -- A list of calls of `addCounts`, each handed what the one before left and answered, is one of `addCall`.
-module _ (D M : ℕ) (T : Float) where
+module _ (K D M : ℕ) (T : Float) where
   abbrev counting : Calls ℕ Refusal Report
-  counting = countCalls D M T
+  counting = countCalls K D M T
 
-  calls-are : (b : Buffers ℕ) (cs : List (Batch ℕ)) → calls D M T b cs ≡ told (addCalls counting b cs)
+  calls-are : (b : Buffers ℕ) (cs : List (Batch ℕ)) → calls K D M T b cs ≡ told (addCalls counting b cs)
   unfolding calls addCalls addCounts addCall
   calls-are b [] = refl
   calls-are b (c ∷ cs) =
       go (counting .refusal (b .number) (length (b .zuniqs)) (length (b .values)) (take (b .number) (b .zuniqs)) (take (b .number) (b .values)) c) (λ d. calls-are d cs)
     where
       made : List (Entry ℕ)
-      made = run (counting .accept) (held 29 (b .number) (b .zuniqs) (b .values)) (cells counting c)
+      made = run (counting .accept) (held K (b .number) (b .zuniqs) (b .values)) (cells counting c)
 
       -- the call, by its refusal, and the calls behind it
       first-call : Option Refusal → Buffers ℕ × List CountsAdded
       first-call o =
           let r = answered counting o b made in
-          let more = calls D M T (record { number = heldAfter (b .number) (countsAdded (r .1)); zuniqs = r .0 .zuniqs; values = r .0 .values }) cs in
+          let more = calls K D M T (record { number = heldAfter (b .number) (countsAdded (r .1)); zuniqs = r .0 .zuniqs; values = r .0 .values }) cs in
           (more .0, countsAdded (r .1) ∷ more .1)
 
-      go : (o : Option Refusal) → ((d : Buffers ℕ) → calls D M T d cs ≡ told (addCalls counting d cs)) → first-call o ≡ (let r = answered counting o b made in let t = addCalls counting (r .0) cs in told (t .0, r .1 ∷ t .1))
+      go : (o : Option Refusal) → ((d : Buffers ℕ) → calls K D M T d cs ≡ told (addCalls counting d cs)) → first-call o ≡ (let r = answered counting o b made in let t = addCalls counting (r .0) cs in told (t .0, r .1 ∷ t .1))
       go none more = rw (more (holding counting b made)) refl
       go (some r) more = rw (more b) refl
 
@@ -99,66 +99,67 @@ covers-iff-listed D h (e ∷ l) low =
     (λ m. ⊎-elim (λ i. inl (sym (lies-in-same-depth D h (e .hash) (rw d at i)))) (λ k. inr (more .0 k)) m, λ m. ⊎-elim (λ q. inl (subst (λ (n : ℕ). liesIn D h (e .depth) n ≡ true) (sym q) (rw d (lies-in-self D h)))) (λ k. inr (more .1 k)) m)
 
 -- ---- the claim
-module _ (a : AddCalls) where
+module _ (K : ℕ) (a : AddCalls) where
   abbrev g : Calls ℕ Refusal Report
-  g = countCalls (a .D) (a .M) (a .T)
+  g = countCalls K (a .D) (a .M) (a .T)
 
-  abbrev rising : Rises (a .D) 0 (nHash (a .D)) (joinedList a)
-  rising = joined-batches-rise g (count-calls-sound (a .D) (a .M) (a .T)) (first a) (a .batches)
+  abbrev rising : Rises (a .D) 0 (nHash (a .D)) (joinedList K a)
+  rising = joined-batches-rise g (count-calls-sound K (a .D) (a .M) (a .T)) (first a) (a .batches)
 
-  abbrev in-sky : Rises 29 0 (nHash 29) (mapOf a)
-  in-sky = joined-map-rises g (count-calls-sound (a .D) (a .M) (a .T)) (first a) (a .batches)
+  abbrev in-sky : Rises K 0 (nHash K) (mapOf K a)
+  in-sky = joined-map-rises g (count-calls-sound K (a .D) (a .M) (a .T)) (first a) (a .batches)
 
-  pub as-due : done a ≡ (left g (first a) (due a .0), due a .1)
+  pub as-due : done K a ≡ (left g (first a) (due K a .0), due K a .1)
   as-due =
-      let joined = calls-do-as-joined g (count-calls-sound (a .D) (a .M) (a .T)) (first a) (a .batches) in
-      calls-are (a .D) (a .M) (a .T) (first a) (a .batches) ∙ ap told joined
+      let joined = calls-do-as-joined g (count-calls-sound K (a .D) (a .M) (a .T)) (first a) (a .batches) in
+      calls-are K (a .D) (a .M) (a .T) (first a) (a .batches) ∙ ap told joined
 
-  report-is : lastReport 0 0 (done a .1) ≡ (length (mapOf a), totalOf (mapOf a))
+  report-is : lastReport 0 0 (done K a .1) ≡ (length (mapOf K a), totalOf (mapOf K a))
   report-is =
-      let m = mapOf a in
+      let m = mapOf K a in
       let start : joinedMap g none ≡ [] = ap reverse (defined-map-nil (acceptCounts (a .M) (a .T)) (a .D)) in
       let due-is = report-is-due g (length (a .zuniqs)) (length (a .counts)) none (a .batches) in
-      let last : lastReport 0 0 (due a .1) ≡ (length (reverse m), totalOf (reverse m)) = rw start at due-is in
+      let last : lastReport 0 0 (due K a .1) ≡ (length (reverse m), totalOf (reverse m)) = rw start at due-is in
       ap (λ (t : Buffers ℕ × List CountsAdded). lastReport 0 0 (t .1)) as-due ∙ last ∙ (λ i. (length-reverse m i, total-reverse (λ n. n) m i))
 
-  pub add-calls-claim : Claim a
+  pub add-calls-claim : Claim K a
   add-calls-claim =
       let accept = acceptCounts (a .M) (a .T) in
       record {
         as-due = as-due;
-        valid = rising-is-valid 29 (a .D) (mapOf a) (λ e m. rises-has (a .D) 0 (nHash (a .D)) (mapOf a) e (defined-map-rises accept (a .D) (joinedList a)) m .0) in-sky;
-        rises = rises-iff-ascends 29 (mapOf a) .0 in-sky;
+        valid = rising-is-valid K (a .D) (mapOf K a) (λ e m. rises-has (a .D) 0 (nHash (a .D)) (mapOf K a) e (defined-map-rises accept (a .D) (joinedList K a)) m .0) in-sky;
+        rises = rises-iff-ascends K (mapOf K a) .0 in-sky;
         covers = λ h.
-            let c = defined-map-covers accept (a .D) (joinedList a) rising (a .D) h (omega arith) in
-            let k = covers-iff-listed (a .D) h (joinedList a) (joined-batches-depth g (length (a .zuniqs)) (length (a .counts)) (a .batches)) in
+            let c = defined-map-covers accept (a .D) (joinedList K a) rising (a .D) h (omega arith) in
+            let k = covers-iff-listed (a .D) h (joinedList K a) (joined-batches-depth g (length (a .zuniqs)) (length (a .counts)) (a .batches)) in
             (λ m. k .0 (c .0 m), λ m. c .1 (k .1 m));
-        sums = defined-map-counts accept (a .D) (joinedList a) rising (λ n. n) (mergers-sum (a .M) (a .T));
-        settled = no-acceptable-quad-left accept (a .D) (joinedList a) rising;
+        sums = defined-map-counts accept (a .D) (joinedList K a) rising (λ n. n) (mergers-sum (a .M) (a .T));
+        settled = no-acceptable-quad-left accept (a .D) (joinedList K a) rising;
         reported = report-is;
       }
 
   -- At depth 0 the map is the accepted cells, joined.
-  pub base-cells-joined : a .D ≡ 0 → mapOf a ≡ joinedList a
+  pub base-cells-joined : a .D ≡ 0 → mapOf K a ≡ joinedList K a
   base-cells-joined q =
-      base-cells-map (acceptCounts (a .M) (a .T)) (a .D) q (joinedList a) (λ e m. joined-batches-depth g (length (a .zuniqs)) (length (a .counts)) (a .batches) e m ∙ q) rising
+      base-cells-map (acceptCounts (a .M) (a .T)) (a .D) q (joinedList K a) (λ e m. joined-batches-depth g (length (a .zuniqs)) (length (a .counts)) (a .batches) e m ∙ q) rising
 
-  -- ---- the map that goes into a pool
-  given-stands : (given a .zuniqs ≡ map (zuniqOf 29) (mapOf a)) × (given a .values ≡ map valueOf (mapOf a))
+-- ---- the map that goes into a pool
+module _ (a : AddCalls) where
+  given-stands : (given a .zuniqs ≡ map (zuniqOf 29) (mapOf 29 a)) × (given a .values ≡ map valueOf (mapOf 29 a))
   unfolding laid
   given-stands =
-      let w = joined-map-stands g (count-calls-sound (a .D) (a .M) (a .T)) (first a) (a .batches) in
-      let m = reverse-reverse (mapOf a) in (
-        ap (λ (t : Buffers ℕ × List CountsAdded). take (t .0 .number) (t .0 .zuniqs)) as-due ∙ w .0 ∙ ap (map (zuniqOf 29)) m,
-        ap (λ (t : Buffers ℕ × List CountsAdded). take (t .0 .number) (t .0 .values)) as-due ∙ w .1 ∙ ap (map valueOf) m,
+      let w = joined-map-stands (g 29 a) (count-calls-sound 29 (a .D) (a .M) (a .T)) (first a) (a .batches) in
+      let m = reverse-reverse (mapOf 29 a) in (
+        ap (λ (t : Buffers ℕ × List CountsAdded). take (t .0 .number) (t .0 .zuniqs)) (as-due 29 a) ∙ w .0 ∙ ap (map (zuniqOf 29)) m,
+        ap (λ (t : Buffers ℕ × List CountsAdded). take (t .0 .number) (t .0 .values)) (as-due 29 a) ∙ w .1 ∙ ap (map valueOf) m,
       )
 
-  pub given-entries : entries (given a) ≡ mapOf a
-  given-entries = ap₂ entriesOf (given-stands .0) (given-stands .1) ∙ entries-laid (mapOf a) (λ e m. rises-in-range 29 0 (mapOf a) e in-sky m)
+  pub given-entries : entries (given a) ≡ mapOf 29 a
+  given-entries = ap₂ entriesOf (given-stands .0) (given-stands .1) ∙ entries-laid (mapOf 29 a) (λ e m. rises-in-range 29 0 (mapOf 29 a) e (in-sky 29 a) m)
 
   pub given-passes : mapRefusal (firstFault 29 (a .D) (given a .zuniqs)) ≡ none
   unfolding mapRefusal
-  given-passes = rw (given-stands .0, no-fault-iff-valid 29 (a .D) (map (zuniqOf 29) (mapOf a)) .1 (add-calls-claim .valid)) refl
+  given-passes = rw (given-stands .0, no-fault-iff-valid 29 (a .D) (map (zuniqOf 29) (mapOf 29 a)) .1 (add-calls-claim 29 a .valid)) refl
 
 -- ---- pooling two of them
 module _ (a b : AddCalls) (M : ℕ) (T : Float) (zs vs : List ℕ) where
@@ -167,17 +168,17 @@ module _ (a b : AddCalls) (M : ℕ) (T : Float) (zs vs : List ℕ) where
   maps-pass c d = rw (given-passes c, given-passes d) refl
 
   pool-is-due : poolRefusal (given a) (given b) M T (length zs) (length vs) ≡ none → let p = poolOf a b M T in
-      poolCounts (given a) (given b) M T zs vs ≡ (CountsAdded.Added (length p) (totalOf (mapOf a) + totalOf (mapOf b)), zuniqBuffer 29 (length zs) p, valueBuffer 0 (length vs) p)
+      poolCounts (given a) (given b) M T zs vs ≡ (CountsAdded.Added (length p) (totalOf (mapOf 29 a) + totalOf (mapOf 29 b)), zuniqBuffer 29 (length zs) p, valueBuffer 0 (length vs) p)
   unfolding poolCounts poolOver
   pool-is-due e =
       let D = max (a .D) (b .D) in
       let p = poolOf a b M T in
-      let t : totalOf p ≡ totalOf (mapOf a) + totalOf (mapOf b) =
-      total-reverse (λ n. n) (definedPool (acceptCounts M T) D (mapOf a) (mapOf b)) ∙ pool-total D (mapOf a) (mapOf b) (deeper a (omega arith)) (deeper b (omega arith)) (acceptCounts M T) (mergers-sum M T) in
+      let t : totalOf p ≡ totalOf (mapOf 29 a) + totalOf (mapOf 29 b) =
+      total-reverse (λ n. n) (definedPool (acceptCounts M T) D (mapOf 29 a) (mapOf 29 b)) ∙ pool-total D (mapOf 29 a) (mapOf 29 b) (deeper a (omega arith)) (deeper b (omega arith)) (acceptCounts M T) (mergers-sum M T) in
       rw (e, given-entries a, given-entries b, t) refl
     where
-      deeper : (c : AddCalls) → c .D ≤ max (a .D) (b .D) → Rises (max (a .D) (b .D)) 0 (nHash (max (a .D) (b .D))) (mapOf c)
-      deeper c u = rises-deeper-iff (c .D) (max (a .D) (b .D)) u (mapOf c) .0 (defined-map-rises (acceptCounts (c .M) (c .T)) (c .D) (joinedList c)) .1
+      deeper : (c : AddCalls) → c .D ≤ max (a .D) (b .D) → Rises (max (a .D) (b .D)) 0 (nHash (max (a .D) (b .D))) (mapOf 29 c)
+      deeper c u = rises-deeper-iff (c .D) (max (a .D) (b .D)) u (mapOf 29 c) .0 (defined-map-rises (acceptCounts (c .M) (c .T)) (c .D) (joinedList 29 c)) .1
 
   pool-refused : (x : Refusal) → poolRefusal (given a) (given b) M T (length zs) (length vs) ≡ some x → poolCounts (given a) (given b) M T zs vs ≡ (CountsAdded.Refused x, zs, vs)
   unfolding poolCounts poolOver

@@ -6,20 +6,26 @@ use mathlib.Core.List.{List, [], _∷_, _++_}
 use Prim.Native.Nat.{ℕ, zero, suc, _+_, _-_}
 use lib.Dec.{eqb}
 use lib.IntN.{pos, negsuc}
+use lib.ListN.{length}
 use lib.Ieee as Ieee
 use lib.Ieee.{Float, inf, fin, isNan}
 use Rattle.zuniq.specs.Cells.{nHash, liesIn, overlap}
-use Rattle.zuniq.specs.Codec.{zuniq, encode, hashAt, isZuniqAt, cellUpTo, decode}
+use Rattle.refusal.specs.Refusals.{numberOf, placeOf}
+use Rattle.zuniq.specs.Codec.{zuniq, encode, hashAt, isZuniqAt, cellUpTo, decode, overlapOf, overlapTest}
 use Rattle.zuniq.specs.declared.Encoded.{Encoded}
 use Rattle.zuniq.specs.declared.Decoded.{Decoded}
 use Rattle.merger.specs.Floats.{0·0}
 use Rattle.merger.specs.Merge.{chiOfCounts, mergeCounts, mergedCount, acceptCounts, countMerger}
 use Rattle.merger.specs.declared.CountMerge.{CountMerge}
 use Rattle.merger.specs.declared.CountMerger.{CountMerger}
+use Rattle.mom.specs.Map.{isYes, overlaps, faultAfter, faultOf, faultAt, atOr, faultFrom, firstFault}
 use Rattle.build.specs.Map.{Entry, entry, joined, listed, whole, tops, definedMap}
-use Rattle.build.specs.Buffers.{batch}
+use Rattle.build.specs.Buffers.{batch, laid, filled, readOnto, held}
+use Rattle.build.specs.Add.{lengthsRefusal, mapRefusal, spaceRefusal}
 use Rattle.combine.specs.Overlay.{someEntry, fits, part, valueIn, overlayIn, overlay}
 use Rattle.combine.specs.Rules.{kept, combined, splitCount, definedPool}
+use Rattle.moving.specs.Moving.{isDeeper, deepRefusal, entriesRefusal, movingRefusal, movedOr, moved}
+use Rattle.moving.specs.declared.Moved.{Moved}
 
 pub every : List Bool → Bool
 every [] = true
@@ -40,13 +46,16 @@ isNone : Decoded → Bool
 isNone (Decoded.Cell c) = false
 isNone Decoded.Nothing = true
 
--- zuniq(d, h) = z, both ways
+-- zuniq(d, h) = z, both ways, in zuniqs with the largest depth K
+codesIn : ℕ → ℕ → ℕ → ℕ → Bool
+codesIn K d h z = isZuniq (encode K d h) z && isCell (decode K z) d h
+
 codes : ℕ → ℕ → ℕ → Bool
-codes d h z = isZuniq (encode 29 d h) z && isCell (decode 29 z) d h
+codes = codesIn 29
 
 -- ---- section 1
 pub section1 : List Bool
-unfolding isZuniq isCell isNone codes zuniq nHash encode hashAt isZuniqAt cellUpTo decode
+unfolding isZuniq isCell isNone codesIn codes zuniq nHash encode hashAt isZuniqAt cellUpTo decode
 section1 =
     -- zuniq(29,0)=1
     codes 29 0 1
@@ -161,7 +170,53 @@ note1 =
     (0 ∷ 0 ∷ 1 ∷ 0 ∷ 1 ∷ 1 ∷ 0 ∷ 2 ∷ 1 ∷ 0 ∷ 3 ∷ 1 ∷ 0 ∷ 4 ∷ 1 ∷ 0 ∷ 5 ∷ 1 ∷ 0 ∷ 6 ∷ 1 ∷ 0 ∷ 7 ∷ 1 ∷ 0 ∷ 8 ∷ 1 ∷ 0 ∷ 9 ∷ 1 ∷ 0 ∷ 10 ∷ 1 ∷ 0 ∷ 11 ∷ 1 ∷ [])
     ∷ []
 
+-- ---- what a row of note 2 says
+isList : List ℕ → List ℕ → Bool
+isList [] [] = true
+isList [] (y ∷ ys) = false
+isList (x ∷ xs) [] = false
+isList (x ∷ xs) (y ∷ ys) = eqb x y && isList xs ys
+
+-- moving answers this depth and this number of entries, and leaves these zuniqs and counts in the output
+leaves : Moved × List ℕ × List ℕ → ℕ → ℕ → List ℕ → List ℕ → Bool
+leaves (Moved.Map depth entries, zs, vs) d n xs ws = eqb depth d && (eqb entries n && (isList zs xs && isList vs ws))
+leaves (Moved.Refused r, zs, vs) d n xs ws = false
+
+-- moving is refused by this number, with this place, and leaves the output, which held 9 everywhere, as it was
+refuses : ℕ → ℕ → Moved × List ℕ × List ℕ → Bool
+refuses number place (Moved.Map depth entries, zs, vs) = false
+refuses number place (Moved.Refused r, zs, vs) = eqb (numberOf r) number && (eqb (placeOf r) place && (isList zs (times (length zs) 9) && isList vs (times (length vs) 9)))
+
+-- ---- note 2 of 02: codes of narrow zuniqs, and moving
+pub note2 : List Bool
+unfolding isZuniq isCell isNone codesIn isList leaves refuses times nHash liesIn overlap zuniq encode hashAt isZuniqAt cellUpTo decode overlapOf overlapTest isYes overlaps faultAfter faultOf faultAt atOr faultFrom firstFault laid filled readOnto held lengthsRefusal mapRefusal spaceRefusal isDeeper deepRefusal entriesRefusal movingRefusal movedOr moved
+note2 =
+    -- "u32 zuniqs, (2h + 1) × 4^(13−d), largest depth 13"
+    codesIn 13 13 0 1
+    ∷ codesIn 13 0 0 67108864
+    ∷ codesIn 13 0 11 1543503872
+    ∷ codesIn 13 13 (nHash 13 - 1) 1610612735
+    ∷ isNone (decode 13 0)
+    ∷ isNone (decode 13 2)
+    ∷ isNone (decode 13 268435456)
+    ∷ isNone (decode 13 1610612737)
+    -- "A narrowed map's depth is the smaller of its own and 13", whatever its entries are; "places after them are 0": (0,0) of 7
+    ∷ leaves (moved 29 13 20 (288230376151711744 ∷ []) (7 ∷ []) (9 ∷ 9 ∷ []) (9 ∷ 9 ∷ [])) 13 1 (67108864 ∷ 0 ∷ []) (7 ∷ 0 ∷ [])
+    ∷ leaves (moved 29 13 5 (288230376151711744 ∷ []) (7 ∷ []) (9 ∷ []) (9 ∷ [])) 5 1 (67108864 ∷ []) (7 ∷ [])
+    -- "a widened one's its own"
+    ∷ leaves (moved 13 29 2 (67108864 ∷ []) (7 ∷ []) (9 ∷ 9 ∷ []) (9 ∷ 9 ∷ [])) 2 1 (288230376151711744 ∷ 0 ∷ []) (7 ∷ 0 ∷ [])
+    -- "13, an entry deeper than 13 is narrowed, place its entry": (13,0) and (14,4)
+    ∷ refuses 13 1 (moved 29 13 14 (4294967296 ∷ 9663676416 ∷ []) (1 ∷ 2 ∷ []) (9 ∷ 9 ∷ []) (9 ∷ 9 ∷ []))
+    -- "tried after 5", and before 11
+    ∷ refuses 5 1 (moved 29 13 20 (1073741824 ∷ 0 ∷ []) (7 ∷ 8 ∷ []) (9 ∷ 9 ∷ []) (9 ∷ 9 ∷ []))
+    ∷ refuses 13 0 (moved 29 13 20 (1073741824 ∷ []) (7 ∷ []) [] [])
+    -- "For narrow maps number 1 means a depth over 13"
+    ∷ refuses 1 0 (moved 13 29 14 [] [] [] [])
+    -- "space is judged by that number", the number of entries
+    ∷ refuses 11 0 (moved 13 29 13 (1 ∷ []) (7 ∷ []) [] [])
+    ∷ []
+
 -- ---- all of them
-pub starred-cases : every (section1 ++ (section2 ++ (section4 ++ (section5 ++ note1)))) ≡ true
-unfolding every section1 section2 section4 section5 note1
+pub starred-cases : every (section1 ++ (section2 ++ (section4 ++ (section5 ++ (note1 ++ note2))))) ≡ true
+unfolding every section1 section2 section4 section5 note1 note2
 starred-cases = refl

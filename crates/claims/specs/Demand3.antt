@@ -1,12 +1,13 @@
 -- Demand 3 of the scope: what is claimed of every list of count add calls with one D, M and T, and of pooling two maps so made.
 -- Said over the definitions that the contracts of the calls cite: `addCounts` is what `add_counts` does, `poolCounts` what `pool` does.
+-- K is the largest depth of the zuniq type: 29 for the calls of `build_counts`, 13 for those of `narrow_counts` (note 2 of 02).
 use mathlib.Core.Path.{_≡_}
 use mathlib.Core.List.{List, [], _∷_, map, reverse}
 use mathlib.Core.Logic.{_↔_}
 use mathlib.Core.Option.{Option, none, some}
 use Prim.Native.Nat.{ℕ, _+_, max}
 use lib.Ieee.{Float}
-use lib.ListN.{length, take, drop}
+use lib.ListN.{length, take}
 use Rattle.refusal.specs.declared.Refusal.{Refusal}
 use Rattle.merger.specs.Merge.{acceptCounts}
 use Rattle.mom.specs.Map.{ValidMap}
@@ -33,11 +34,11 @@ heldAfter m (CountsAdded.Added entries total) = entries
 
 -- the calls, one after the other: "Each later one gets the buffers as the last call left them and m as the last accepted call
 -- answered it"; what they leave, and every answer
-unfoldable pub calls : ℕ → ℕ → Float → Buffers ℕ → List (Batch ℕ) → Buffers ℕ × List CountsAdded
-calls D M T b [] = (b, [])
-calls D M T b (c ∷ cs) =
-    let r = addCounts D M T (b .number) (b .zuniqs) (b .values) (c .hashes) (c .values) in
-    let more = calls D M T (record { number = heldAfter (b .number) (r .0); zuniqs = r .1; values = r .2 }) cs in
+unfoldable pub calls : ℕ → ℕ → ℕ → Float → Buffers ℕ → List (Batch ℕ) → Buffers ℕ × List CountsAdded
+calls K D M T b [] = (b, [])
+calls K D M T b (c ∷ cs) =
+    let r = addCounts K D M T (b .number) (b .zuniqs) (b .values) (c .hashes) (c .values) in
+    let more = calls K D M T (record { number = heldAfter (b .number) (r .0); zuniqs = r .1; values = r .2 }) cs in
     (more .0, r .0 ∷ more .1)
 
 -- "a list of count add calls with one D, M and T": the batch of each, and the first content of the two buffers
@@ -49,21 +50,21 @@ pub record AddCalls : Type 0 where
   pub counts : List ℕ
   pub batches : List (Batch ℕ)
 
-module _ (a : AddCalls) where
-  -- "The first gets m = 0 and buffers with any content."
-  abbrev pub first : Buffers ℕ
-  first = record { number = 0; zuniqs = a .zuniqs; values = a .counts }
+-- "The first gets m = 0 and buffers with any content."
+abbrev pub first : AddCalls → Buffers ℕ
+first a = record { number = 0; zuniqs = a .zuniqs; values = a .counts }
 
+module _ (K : ℕ) (a : AddCalls) where
   -- what the calls leave in the buffers, with m, and what they answer
   abbrev pub done : Buffers ℕ × List CountsAdded
-  done = calls (a .D) (a .M) (a .T) first (a .batches)
+  done = calls K (a .D) (a .M) (a .T) (first a) (a .batches)
 
   -- "The joined batches [..] are made from the calls' arguments alone", and with them what each call should answer
   abbrev pub due : Option (List (Entry ℕ)) × List CountsAdded
-  due = let t = joinCalls (countCalls (a .D) (a .M) (a .T)) (length (a .zuniqs)) (length (a .counts)) none (a .batches) in (t .0, map countsAdded (t .1))
+  due = let t = joinCalls (countCalls K (a .D) (a .M) (a .T)) (length (a .zuniqs)) (length (a .counts)) none (a .batches) in (t .0, map countsAdded (t .1))
 
   abbrev pub joinedList : List (Entry ℕ)
-  joinedList = joinedCells (countCalls (a .D) (a .M) (a .T)) (due .0)
+  joinedList = joinedCells (countCalls K (a .D) (a .M) (a .T)) (due .0)
 
   -- "the defined map of the joined batches"
   abbrev pub mapOf : List (Entry ℕ)
@@ -73,10 +74,10 @@ module _ (a : AddCalls) where
     -- "A call is refused exactly when, and as, the refusals below say with the defined map of the joined batches as held map"; "After
     -- the list m is the number of entries, and the buffers hold the defined map with 0 in every place after it or, with no call
     -- accepted, their first content": every answer, m, and both buffers whole
-    pub as-due : done ≡ (left (countCalls (a .D) (a .M) (a .T)) first (due .0), due .1)
+    pub as-due : done ≡ (left (countCalls K (a .D) (a .M) (a .T)) (first a) (due .0), due .1)
     -- the entries are a valid map: they rise and none overlap
-    pub valid : ValidMap 29 (a .D) (map (zuniqOf 29) mapOf)
-    pub rises : Ascends 29 mapOf
+    pub valid : ValidMap K (a .D) (map (zuniqOf K) mapOf)
+    pub rises : Ascends K mapOf
     -- "The cells covered are the depth-D cells that lie in an entry": exactly those of the accepted batches
     pub covers : (h : ℕ) → Covers mapOf (a .D) h ↔ Any (λ c. c .hash ≡ h) joinedList
     -- "the counts under an entry are those of joined cells that lie in it": it holds their sum
@@ -88,13 +89,13 @@ module _ (a : AddCalls) where
     pub reported : lastReport 0 0 (done .1) ≡ (length mapOf, totalOf mapOf)
 
 -- ---- pooling two maps so made
--- the map that the calls left: "each goes in with its own D"
+-- the map that the calls left, in u64 zuniqs: "each goes in with its own D"
 abbrev pub given : AddCalls → Given ℕ
-given a = let b = done a .0 in record { depth = a .D; zuniqs = take (b .number) (b .zuniqs); values = take (b .number) (b .values) }
+given a = let b = done 29 a .0 in record { depth = a .D; zuniqs = take (b .number) (b .zuniqs); values = take (b .number) (b .values) }
 
 -- the defined pool of the two defined maps, last entry first
 abbrev pub poolOf : AddCalls → AddCalls → ℕ → Float → List (Entry ℕ)
-poolOf a b M T = reverse (definedPool (acceptCounts M T) (max (a .D) (b .D)) (mapOf a) (mapOf b))
+poolOf a b M T = reverse (definedPool (acceptCounts M T) (max (a .D) (b .D)) (mapOf 29 a) (mapOf 29 b))
 
 -- "The two maps of demand 3 may differ in D, M and T": pooled with any M and T into buffers that held zs and vs
 pub record PoolClaim (a b : AddCalls) (M : ℕ) (T : Float) (zs vs : List ℕ) : Type 0 where
@@ -102,7 +103,7 @@ pub record PoolClaim (a b : AddCalls) (M : ℕ) (T : Float) (zs vs : List ℕ) :
   pub maps : mapsRefusal (given a) (given b) ≡ none
   -- the answer, if it is not refused, is the defined pool, its total the sum of the two totals, with 0 in every place after it
   pub pooled : poolRefusal (given a) (given b) M T (length zs) (length vs) ≡ none → let p = poolOf a b M T in
-      poolCounts (given a) (given b) M T zs vs ≡ (CountsAdded.Added (length p) (totalOf (mapOf a) + totalOf (mapOf b)), zuniqBuffer 29 (length zs) p, valueBuffer 0 (length vs) p)
+      poolCounts (given a) (given b) M T zs vs ≡ (CountsAdded.Added (length p) (totalOf (mapOf 29 a) + totalOf (mapOf 29 b)), zuniqBuffer 29 (length zs) p, valueBuffer 0 (length vs) p)
   -- a refusal leaves the output
   pub refused : (x : Refusal) → poolRefusal (given a) (given b) M T (length zs) (length vs) ≡ some x → poolCounts (given a) (given b) M T zs vs ≡ (CountsAdded.Refused x, zs, vs)
   -- "Swapped, with all else handed in alike, they give the same answer and output, a refusal having the same number and place."

@@ -60,8 +60,8 @@ passed l r M T places values a b c =
       left-paired = p .0;
       right-paired = p .1;
       paired = p .2;
-      left-valid = map-passes (l .depth) (l .zuniqs) (m .0);
-      right-valid = map-passes (r .depth) (r .zuniqs) (m .1);
+      left-valid = map-passes 29 (l .depth) (l .zuniqs) (m .0);
+      right-valid = map-passes 29 (r .depth) (r .zuniqs) (m .1);
     }
 
 -- Their entries rise, and none is deeper than the result.

@@ -2,7 +2,7 @@
 -- Assumes nothing.
 use mathlib.Core.Path.{_≡_, refl, ap, ap₂, sym, _∙_}
 use mathlib.Core.Bool.{Bool, true, false, _||_, not}
-use mathlib.Core.List.{List, [], reverse, _++_}
+use mathlib.Core.List.{List, reverse, _++_}
 use mathlib.Core.Option.{none, some}
 use Prim.Native.Nat.{ℕ, _+_, _-_, _≤_, _<_}
 use native.Mathlib.Omega.{arith}
@@ -57,7 +57,7 @@ module _ (l r : List (Entry ℕ)) (p : Rises 29 0 (nHash 29) l) (q : Rises 29 0 
       let t : sum ≡ totalOf (held 29 n zs₁ vs₁) =
       sym es ∙ sym (pool-total 29 l r p q accept (λ d h k0 k1 k2 k3 x y. accepted-count-is-sum M T d h k0 k1 k2 k3 x y)) ∙ sym (total-reverse (λ x. x) pool) ∙ sym (ap totalOf is) in
       ap₂ (λ (k t : ℕ). (CountsAdded.Added k t, zs₂, vs₂)) k t
-      ∙ ap (λ (u : Buffers ℕ × Answer Refusal Report). (countsAdded (u .1), u .0 .zuniqs, u .0 .values)) (map-left (countCalls 29 M T) 0 (record { number = 0; zuniqs = zs; values = vs }) (reverse pool) n zs₁ vs₁ zs₂ vs₂ (w .stands) is lz lv ez ev)
+      ∙ ap (λ (u : Buffers ℕ × Answer Refusal Report). (countsAdded (u .1), u .0 .zuniqs, u .0 .values)) (map-left (countCalls 29 29 M T) 0 (record { number = 0; zuniqs = zs; values = vs }) (reverse pool) n zs₁ vs₁ zs₂ vs₂ (w .stands) is lz lv ez ev)
 
 -- The same after the cells have been counted, which leaves the buffers as they were: there is too little space, or the pool is made.
 module _ (l r : List (Entry ℕ)) (M : ℕ) (T : Float) (zs vs zs′ vs′ : List ℕ) (cells : ℕ) where

@@ -80,7 +80,7 @@ poolRefusal l r M T places values = orElse (poolInputRefusal l r M T places valu
 -- depth, the refusal is given if there is one.
 unfoldable pub poolOver : ℕ → Option Refusal → List (Entry ℕ) → List (Entry ℕ) → ℕ → Float → List ℕ → List ℕ → CountsAdded × List ℕ × List ℕ
 poolOver K refusal l r M T zs vs =
-    let t = answered (countCalls K M T) refusal (record { number = 0; zuniqs = zs; values = vs }) (reverse (definedPool (acceptCounts M T) K l r)) in
+    let t = answered (countCalls 29 K M T) refusal (record { number = 0; zuniqs = zs; values = vs }) (reverse (definedPool (acceptCounts M T) K l r)) in
     (countsAdded (t .1), t .0 .zuniqs, t .0 .values)
 
 -- the call

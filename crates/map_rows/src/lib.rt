@@ -13,7 +13,7 @@ ghost use lib.ListN.{length};
 ghost use Rattle.mom.specs.Map.{firstFault};
 ghost use Rattle.mom.specs.Search.{LowerBound, OverlapsBefore, OverlapsFrom};
 ghost use Rattle.rows.specs.Rows.{zuniqsOf};
-ghost use Rattle.map_rows.specs.MapRows.{mapRows, mapRowsAt, checkRows, ContainingOver, RunOver};
+ghost use Rattle.map_rows.specs.MapRows.{wide, mapRows, mapRowsAt, checkRows, ContainingOver, RunOver};
 use lookup::is_overlapped;
 use mom::Fault;
 use mom::FirstFault;
@@ -34,7 +34,7 @@ const MAX_ROWS: usize = 4096;
 
 // Whether count rows are a valid map, or its first fault with the place.
 pub fn check_is_mom(depth: u8, bytes: &[u8]) -> MapCheck
-    ensures { λ r. ⌜ r ≡ checkRows depth (now (bytes .entry)) ⌝ }
+    ensures { λ r. ⌜ r ≡ checkRows wide depth (now (bytes .entry)) ⌝ }
 {
     if depth > Zuniq64::MAX_DEPTH {
         return MapCheck::Refused(Refusal::DepthOutOfRange);
@@ -50,7 +50,7 @@ pub fn check_is_mom(depth: u8, bytes: &[u8]) -> MapCheck
 
 // The row of the entry in which a cell of the map's depth lies.
 pub fn get_cell_containing(depth: u8, bytes: &[u8], zuniq: u64) -> Containing
-    ensures { λ r. ⌜ ContainingOver (mapRowsAt depth (now (bytes .entry))) depth (now (bytes .entry)) «zuniq» r ⌝ }
+    ensures { λ r. ⌜ ContainingOver wide (mapRowsAt wide depth (now (bytes .entry))) depth (now (bytes .entry)) «zuniq» r ⌝ }
 {
     if depth > Zuniq64::MAX_DEPTH {
         return Containing::Refused(Refusal::DepthOutOfRange);
@@ -82,7 +82,7 @@ pub fn get_cell_containing(depth: u8, bytes: &[u8], zuniq: u64) -> Containing
 
 // The rows of the entries that overlap a query: the first, and their number.
 pub fn get_overlapped_run(bytes: &[u8], zuniq: u64) -> Run
-    ensures { λ r. ⌜ RunOver (mapRows (now (bytes .entry))) (now (bytes .entry)) «zuniq» r ⌝ }
+    ensures { λ r. ⌜ RunOver wide (mapRows wide (now (bytes .entry))) (now (bytes .entry)) «zuniq» r ⌝ }
 {
     if let Rows::Refused(refusal) = map_rows(bytes) {
         return Run::Refused(refusal);
@@ -105,7 +105,7 @@ pub fn get_overlapped_run(bytes: &[u8], zuniq: u64) -> Run
 
 // How many rows a map comes as.
 fn map_rows(bytes: &[u8]) -> Rows
-    ensures { λ r. ⌜ r ≡ mapRows (now (bytes .entry)) ⌝ }
+    ensures { λ r. ⌜ r ≡ mapRows wide (now (bytes .entry)) ⌝ }
 {
     if bytes.len() % COUNT_ROW != 0 {
         return Rows::Refused(Refusal::LengthMismatch);
@@ -118,7 +118,7 @@ fn map_rows(bytes: &[u8]) -> Rows
 
 // `mom::first_fault` over rows: one pass, in which an entry is compared with the one before it.
 fn first_fault(depth: u8, bytes: &[u8]) -> FirstFault
-    ensures { λ r. ⌜ r ≡ firstFault 29 depth (zuniqsOf (now (bytes .entry))) ⌝ }
+    ensures { λ r. ⌜ r ≡ firstFault 29 depth (zuniqsOf 12 8 (now (bytes .entry))) ⌝ }
 {
     let mut zuniq_before = 0;
     let mut end_before = 0;
@@ -146,7 +146,7 @@ fn first_fault(depth: u8, bytes: &[u8]) -> FirstFault
 
 // A row between an entry below the query and one that is not.
 fn lower_bound(bytes: &[u8], zuniq: u64) -> usize
-    ensures { λ r. ⌜ LowerBound (zuniqsOf (now (bytes .entry))) «zuniq» r ⌝ }
+    ensures { λ r. ⌜ LowerBound (zuniqsOf 12 8 (now (bytes .entry))) «zuniq» r ⌝ }
 {
     let mut lo = 0;
     let mut hi = bytes.len() / COUNT_ROW;
@@ -163,7 +163,7 @@ fn lower_bound(bytes: &[u8], zuniq: u64) -> usize
 
 // The first of the rows before a place that overlap the query without a gap.
 fn run_start(bytes: &[u8], query: ZuniqRange, place: usize) -> usize
-    ensures { λ r. ⌜ OverlapsBefore 29 (zuniqsOf (now (bytes .entry))) query place r ⌝ }
+    ensures { λ r. ⌜ OverlapsBefore 29 (zuniqsOf 12 8 (now (bytes .entry))) query place r ⌝ }
 {
     let mut first = place;
     while first > 0 {
@@ -177,8 +177,8 @@ fn run_start(bytes: &[u8], query: ZuniqRange, place: usize) -> usize
 
 // The end of the rows from a place on that overlap the query without a gap.
 fn run_end(bytes: &[u8], query: ZuniqRange, place: usize) -> usize
-    requires { ⌜ place ≤ length (zuniqsOf (now bytes)) ⌝ }
-    ensures { λ r. ⌜ OverlapsFrom 29 (zuniqsOf (now (bytes .entry))) query place r ⌝ }
+    requires { ⌜ place ≤ length (zuniqsOf 12 8 (now bytes)) ⌝ }
+    ensures { λ r. ⌜ OverlapsFrom 29 (zuniqsOf 12 8 (now (bytes .entry))) query place r ⌝ }
 {
     let mut end = place;
     while end < bytes.len() / COUNT_ROW {

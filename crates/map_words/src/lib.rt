@@ -1,6 +1,6 @@
 // The words in which the C functions answer of maps, rows and densities. `words` tells what a word is.
 ghost use mathlib.Core.Path.{_≡_};
-ghost use Rattle.words.specs.Words.{faultKind, mapCheckWord, containingWord, runWord, countsWord, densitiesWord, rowsWord, countDensityWord, patternDensityWord, densityPatternWord};
+ghost use Rattle.words.specs.Words.{faultKind, mapCheckWord, containingWord, runWord, countsWord, densitiesWord, movedWord, rowsWord, countDensityWord, patternDensityWord, densityPatternWord};
 use build::counts::CountsAdded;
 use build::densities::DensitiesAdded;
 use density::CountDensity;
@@ -10,6 +10,7 @@ use mom::Fault;
 use mom::MapCheck;
 use mom::lookup::Containing;
 use mom::lookup::Run;
+use moving::Moved;
 use rows::Rows;
 use words::ACCEPTED;
 use words::NOTHING;
@@ -94,6 +95,22 @@ pub fn densities_word(answer: DensitiesAdded) -> u64
     match answer {
         DensitiesAdded::Added { entries } => word(ACCEPTED, entries as u64),
         DensitiesAdded::Refused(refusal) => refused(refusal),
+    }
+}
+
+// The number of entries of a map that was moved, and its depth.
+pub fn moved_word(answer: Moved, depth: &mut u8) -> u64
+    ensures { λ r. ⌜ (r, now (depth .exit)) ≡ movedWord answer (now (depth .entry)) ⌝ }
+{
+    match answer {
+        Moved::Map {
+            depth: moved,
+            entries,
+        } => {
+            *depth = moved;
+            word(ACCEPTED, entries as u64)
+        }
+        Moved::Refused(refusal) => refused(refusal),
     }
 }
 

@@ -2,11 +2,11 @@
 use mathlib.Core.Path.{_≡_, refl, sym, ap, _∙_}
 use mathlib.Core.Bool.{true, false}
 use mathlib.Core.Logic.{⊎-elim}
-use mathlib.Core.List.{List}
-use Prim.Native.Nat.{ℕ, _+_, _-_, _≤_, _<_}
+use mathlib.Core.List.{List, []}
+use Prim.Native.Nat.{ℕ, _+_, _*_, _-_, _≤_, _<_}
 use native.Mathlib.Omega.{arith}
-use lib.ListN.{length, getD}
-use denote.Ref.{RefT, now}
+use lib.ListN.{length, getD, take, drop}
+use denote.Ref.{RefT, ptr, now}
 use borrow.Author.Tests.{lt-ltb, le-ltb, eq-eqb, ne-eqb}
 use Rattle.zuniq.specs.Codec.{IsZuniqOf, decode}
 use Rattle.refusal.specs.declared.Refusal.{Refusal}
@@ -18,7 +18,7 @@ use Rattle.mom.specs.declared.Ranged.{Ranged}
 use Rattle.mom.specs.declared.lookup.Containing.{Containing}
 use Rattle.mom.specs.declared.lookup.Run.{Run}
 use Rattle.mom.specs.Map.{overlaps, ValidMap}
-use Rattle.mom.specs.Lookup.{contains, placeFrom, queryAt, containing, overlapped, firstFrom, runOr, overlapping, partOf, IsPart, ContainingAnswer, RunAnswer, OverlappedAnswer}
+use Rattle.mom.specs.Lookup.{contains, placeFrom, queryAt, containing, overlapped, firstFrom, runOr, overlapping, partOf, addressOf, IsPart, ContainingAnswer, RunAnswer, OverlappedAnswer}
 use Rattle.mom.specs.Range.{rangeOf, meets}
 use Rattle.mom.specs.Search.{LowerBound, OverlapsBefore, OverlapsFrom}
 use Rattle.mom.proofs.Overlaps.{contains-shallower}
@@ -141,6 +141,19 @@ module _ {K : ℕ} {zs : List ℕ} {q : ℕ} where
       -- Where none is found, none is shown.
       pub empty-answer : last ≤ first → RunAnswer K zs q (Run.Entries 0 0)
       empty-answer l = entries-answer 0 0 (omega arith) (λ i m. absurd (omega arith)) (λ v. run-none v h at before from l)
+
+-- ---- the part of the zuniqs
+module _ {size : ℕ} {zs part : RefT (List ℕ)} {run : Run} where
+  -- Of a run it is the entries from the first on, where these stand;
+  pub part-of-entries : {first len : ℕ} → run ≡ Run.Entries first len
+      → now part ≡ take (first + len - first) (drop first (now zs)) → ptr part ≡ (ptr zs .0, first * size + ptr zs .1) → IsPart size zs run part
+  unfolding partOf addressOf
+  part-of-entries {first} {len} e n p = let l : first + len - first ≡ len = omega arith in record { entries = rw (e, ← l) n; address = rw e p }
+
+  -- of a refusal it is empty.
+  pub part-of-refused : {r : Refusal} → run ≡ Run.Refused r → now part ≡ [] → ptr part ≡ (ptr zs .0, 0 * size + ptr zs .1) → IsPart size zs run part
+  unfolding partOf addressOf
+  part-of-refused e n p = let z : 0 * size + ptr zs .1 ≡ ptr zs .1 = omega arith in record { entries = rw e n; address = rw (e, ← z) p }
 
 -- A run with its part of the zuniqs.
 pub overlapped-answer : {K size q : ℕ} {zs part : RefT (List ℕ)} {run : Run} → RunAnswer K (now zs) q run → IsPart size zs run part → OverlappedAnswer K size zs q part run

@@ -1,5 +1,6 @@
 pub mod Overlaps
 pub mod Ranges
+pub mod Widths
 pub mod Rises
 pub mod Valid
 pub mod Faults

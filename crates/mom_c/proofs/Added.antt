@@ -1,12 +1,13 @@
--- What adding and combining leave, by the words of their answers. Assumes nothing.
+-- What adding, combining and moving leave, by the words of their answers. Assumes nothing.
 use mathlib.Core.Path.{_≡_, ap, subst}
 use mathlib.Core.List.{List}
 use Prim.Native.Nat.{ℕ}
 use lib.Ieee.{Float}
 use Rattle.build.specs.declared.counts.CountsAdded.{CountsAdded}
 use Rattle.build.specs.declared.densities.DensitiesAdded.{DensitiesAdded}
-use Rattle.words.specs.Words.{countsWord, densitiesWord}
-use Rattle.mom_c.specs.Answers.{countsAddedWord, densitiesAddedWord}
+use Rattle.moving.specs.declared.Moved.{Moved}
+use Rattle.words.specs.Words.{countsWord, densitiesWord, movedWord}
+use Rattle.mom_c.specs.Answers.{countsAddedWord, densitiesAddedWord, movedMapWord}
 
 pub counts-told : (t : CountsAdded × List ℕ × List ℕ) (a : CountsAdded) (r total old : ℕ) (zs vs : List ℕ) → (a, zs, vs) ≡ t → (r, total) ≡ countsWord a old → (r, total, zs, vs) ≡ countsAddedWord t old
 unfolding countsAddedWord
@@ -19,3 +20,9 @@ unfolding densitiesAddedWord
 densities-told t a r zs vs e q =
     subst (λ (x : DensitiesAdded × List ℕ × List Float). (r, zs, vs) ≡ densitiesAddedWord x) e
     (ap (λ (w : ℕ). (w, zs, vs)) q)
+
+pub moved-told : (t : Moved × List ℕ × List ℕ) (a : Moved) (r depth old : ℕ) (zs vs : List ℕ) → (a, zs, vs) ≡ t → (r, depth) ≡ movedWord a old → (r, depth, zs, vs) ≡ movedMapWord t old
+unfolding movedMapWord
+moved-told t a r depth old zs vs e q =
+    subst (λ (x : Moved × List ℕ × List ℕ). (r, depth, zs, vs) ≡ movedMapWord x old) e
+    (ap (λ (w : ℕ × ℕ). (w .0, w .1, zs, vs)) q)

@@ -1,5 +1,5 @@
 -- What the C functions answer of calls whose answer is not one word of the library's: a run or an entry that lookup may give,
--- and an add or combining call with both buffers.
+-- and an add, combining or moving call with both buffers.
 use mathlib.Core.Path.{_≡_}
 use mathlib.Core.List.{List}
 use Prim.Native.Nat.{ℕ}
@@ -9,17 +9,18 @@ use Rattle.mom.specs.declared.lookup.Containing.{Containing}
 use Rattle.mom.specs.declared.lookup.Run.{Run}
 use Rattle.build.specs.declared.counts.CountsAdded.{CountsAdded}
 use Rattle.build.specs.declared.densities.DensitiesAdded.{DensitiesAdded}
-use Rattle.words.specs.Words.{containingWord, runWord, countsWord, densitiesWord}
+use Rattle.moving.specs.declared.Moved.{Moved}
+use Rattle.words.specs.Words.{containingWord, runWord, countsWord, densitiesWord, movedWord}
 
--- the word of an answer that lookup may give
-pub record ContainingIs (D : ℕ) (zs : List ℕ) (q r : ℕ) : Type 0 where
+-- the word of an answer that lookup may give; K is the largest depth of the zuniq type
+pub record ContainingIs (K D : ℕ) (zs : List ℕ) (q r : ℕ) : Type 0 where
   pub answer : Containing
-  pub is : ContainingAnswer 29 D zs q answer
+  pub is : ContainingAnswer K D zs q answer
   pub told : r ≡ containingWord answer
 
-pub record RunIs (zs : List ℕ) (q old r number : ℕ) : Type 0 where
+pub record RunIs (K : ℕ) (zs : List ℕ) (q old r number : ℕ) : Type 0 where
   pub answer : Run
-  pub is : RunAnswer 29 zs q answer
+  pub is : RunAnswer K zs q answer
   pub told : (r, number) ≡ runWord answer old
 
 -- the number of entries, their total, and both buffers
@@ -29,3 +30,7 @@ countsAddedWord t old = let w = countsWord (t .0) old in (w .0, w .1, t .1, t .2
 -- the number of entries, and both buffers
 unfoldable pub densitiesAddedWord : DensitiesAdded × List ℕ × List Float → ℕ × List ℕ × List Float
 densitiesAddedWord t = (densitiesWord (t .0), t .1, t .2)
+
+-- the number of entries, the depth, and both buffers
+unfoldable pub movedMapWord : Moved × List ℕ × List ℕ → ℕ → ℕ × ℕ × List ℕ × List ℕ
+movedMapWord t old = let w = movedWord (t .0) old in (w .0, w .1, t .1, t .2)

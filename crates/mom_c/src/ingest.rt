@@ -6,7 +6,7 @@
 // query that is no zuniq, or in `mom_get_cell_containing` not of the map's depth (12).
 ghost use mathlib.Core.Path.{_≡_};
 ghost use Rattle.rows.specs.Rows.{countRows, densityRows, readRows, writeRows};
-ghost use Rattle.map_rows.specs.MapRows.{checkRows};
+ghost use Rattle.map_rows.specs.MapRows.{wide, checkRows};
 ghost use Rattle.density.specs.Densities.{densityOfCount, densityOfPattern, patternOfDensity};
 ghost use Rattle.words.specs.Words.{mapCheckWord, countDensityWord, patternDensityWord, densityPatternWord};
 ghost use Rattle.mom_c.specs.Ingest.{told, ContainingInRows, RunInRows};
@@ -91,7 +91,7 @@ pub extern "C" fn mom_pattern_of_density(density: f64, pattern: &mut u64) -> u64
 // Whether count rows are a valid map, or its first fault with the place.
 #[no_mangle]
 pub extern "C" fn mom_check_is_mom(depth: u8, bytes: &[u8]) -> u64
-    ensures { λ r. ⌜ r ≡ mapCheckWord (checkRows depth (now (bytes .entry))) ⌝ }
+    ensures { λ r. ⌜ r ≡ mapCheckWord (checkRows wide depth (now (bytes .entry))) ⌝ }
 {
     map_check_word(check_is_mom(depth, bytes))
 }
@@ -99,7 +99,7 @@ pub extern "C" fn mom_check_is_mom(depth: u8, bytes: &[u8]) -> u64
 // The row of the entry in which a cell of the map's depth lies, or that there is none.
 #[no_mangle]
 pub extern "C" fn mom_get_cell_containing(depth: u8, bytes: &[u8], zuniq: u64) -> u64
-    ensures { λ r. ⌜ ContainingInRows depth (now (bytes .entry)) «zuniq» r ⌝ }
+    ensures { λ r. ⌜ ContainingInRows wide depth (now (bytes .entry)) «zuniq» r ⌝ }
 {
     containing_word(get_cell_containing(depth, bytes, zuniq))
 }
@@ -107,7 +107,7 @@ pub extern "C" fn mom_get_cell_containing(depth: u8, bytes: &[u8], zuniq: u64) -
 // The rows of the entries that overlap a query: the first, and their number.
 #[no_mangle]
 pub extern "C" fn mom_get_overlapped_cells(bytes: &[u8], zuniq: u64, number: &mut usize) -> u64
-    ensures { λ r. ⌜ RunInRows (now (bytes .entry)) «zuniq» (now (number .entry)) r (now (number .exit)) ⌝ }
+    ensures { λ r. ⌜ RunInRows wide (now (bytes .entry)) «zuniq» (now (number .entry)) r (now (number .exit)) ⌝ }
 {
     run_word(get_overlapped_run(bytes, zuniq), number)
 }

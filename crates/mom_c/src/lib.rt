@@ -1,6 +1,7 @@
 // The C functions: section 7 of the scope, on numbers and byte slices. `ingest` has those of the Rust
-// ingest process: rows, and the check and lookup of maps that come as rows. Those here are for the
-// comparison with the original and the benchmark; the check and lookup take the zuniqs of a map.
+// ingest process: rows, and the check and lookup of maps that come as rows. `domes` has those of the
+// dome boxes, and `widths` what goes between the two widths. Those here are for the comparison with the
+// original and the benchmark; the check and lookup take the zuniqs of a map.
 //
 // A call answers one word, which `words` makes of the library's answer. What does not fit goes through
 // a `&mut` number, which is written on acceptance alone: a refusal touches nothing.
@@ -33,7 +34,9 @@ use words::zuniq_word;
 use zuniq::Zuniq64;
 
 mod combining;
+mod domes;
 mod ingest;
+mod widths;
 
 // The number of cells at a depth.
 #[no_mangle]
@@ -130,7 +133,7 @@ pub extern "C" fn mom_check_is_mom_zuniqs(depth: u8, zuniqs: &[u64]) -> u64
 // The place of the entry in which a cell of the map's depth lies, or that there is none.
 #[no_mangle]
 pub extern "C" fn mom_get_cell_containing_zuniqs(depth: u8, zuniqs: &[u64], zuniq: u64) -> u64
-    ensures { λ r. ⌜ ContainingIs depth (now (zuniqs .entry)) «zuniq» r ⌝ }
+    ensures { λ r. ⌜ ContainingIs 29 depth (now (zuniqs .entry)) «zuniq» r ⌝ }
 {
     containing_word(get_cell_containing(depth, zuniqs, zuniq))
 }
@@ -142,7 +145,7 @@ pub extern "C" fn mom_get_overlapped_cells_zuniqs(
     zuniq: u64,
     number: &mut usize,
 ) -> u64
-    ensures { λ r. ⌜ RunIs (now (zuniqs .entry)) «zuniq» (now (number .entry)) r (now (number .exit)) ⌝ }
+    ensures { λ r. ⌜ RunIs 29 (now (zuniqs .entry)) «zuniq» (now (number .entry)) r (now (number .exit)) ⌝ }
 {
     run_word(get_overlapped_run(zuniqs, zuniq), number)
 }
@@ -160,7 +163,7 @@ pub extern "C" fn mom_add_counts(
     batch: &[u32],
     total: &mut u32,
 ) -> u64
-    ensures { λ r. ⌜ (r, now (total .exit), now (zuniqs .exit), now (counts .exit)) ≡ countsAddedWord (addCounts depth «depth_threshold» «chi2_threshold» held (now (zuniqs .entry)) (now (counts .entry)) (now (hashes .entry)) (now (batch .entry))) (now (total .entry)) ⌝ }
+    ensures { λ r. ⌜ (r, now (total .exit), now (zuniqs .exit), now (counts .exit)) ≡ countsAddedWord (addCounts 29 depth «depth_threshold» «chi2_threshold» held (now (zuniqs .entry)) (now (counts .entry)) (now (hashes .entry)) (now (batch .entry))) (now (total .entry)) ⌝ }
 {
     let added = add_counts(
         depth,

@@ -51,7 +51,7 @@ answerText (CountsAdded.Added entries total) zs ns = entriesText (take entries z
 
 -- of the map of all cells, nothing being held
 unfoldable pub mapText : ℕ → ℕ → Float → List ℕ → List ℕ → List ℕ
-mapText D M T hs ns = let t = addCounts D M T 0 places places hs ns in answerText (t .0) (t .1) (t .2)
+mapText D M T hs ns = let t = addCounts 29 D M T 0 places places hs ns in answerText (t .0) (t .1) (t .2)
 
 -- "number 0 with the line (from 1) for unreadable text"
 abbrev pub printed : Reading → List ℕ

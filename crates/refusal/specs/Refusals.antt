@@ -1,9 +1,9 @@
 -- The scope's table "Refusals in checking order": "A refusal is its number and a place, counted from 0 and 0 unless said".
 use Prim.Native.Nat.{ℕ}
 use Rattle.refusal.specs.declared.Refusal.{Refusal}
-use Rattle.refusal.specs.declared.Refusal.the-variants.{DepthOutOfRange, DepthThresholdOutOfRange, Chi2ThresholdIsNan, InvalidFactor, LengthMismatch, InvalidMap, InvalidMapDensity, HashOutOfRange, CellNotAbove, InvalidDensity, CountOverflow, ProductNotFinite, NoSpace, InvalidQuery}
+use Rattle.refusal.specs.declared.Refusal.the-variants.{DepthOutOfRange, DepthThresholdOutOfRange, Chi2ThresholdIsNan, InvalidFactor, LengthMismatch, InvalidMap, EntryTooDeep, InvalidMapDensity, HashOutOfRange, CellNotAbove, InvalidDensity, CountOverflow, ProductNotFinite, NoSpace, InvalidQuery}
 
--- the row of the table
+-- the row of the table; of note 2 of 02: "13, an entry deeper than 13 is narrowed, place its entry, tried after 5"
 abbrev pub numberOf : Refusal → ℕ
 numberOf DepthOutOfRange = 1
 numberOf DepthThresholdOutOfRange = 2
@@ -11,6 +11,7 @@ numberOf Chi2ThresholdIsNan = 3
 numberOf InvalidFactor = 3
 numberOf LengthMismatch = 4
 numberOf (InvalidMap entry) = 5
+numberOf (EntryTooDeep entry) = 13
 numberOf (InvalidMapDensity entry) = 6
 numberOf (HashOutOfRange cell) = 7
 numberOf (CellNotAbove cell) = 8
@@ -28,6 +29,7 @@ placeOf Chi2ThresholdIsNan = 0
 placeOf InvalidFactor = 0
 placeOf LengthMismatch = 0
 placeOf (InvalidMap entry) = entry
+placeOf (EntryTooDeep entry) = entry
 placeOf (InvalidMapDensity entry) = entry
 placeOf (HashOutOfRange cell) = cell
 placeOf (CellNotAbove cell) = cell

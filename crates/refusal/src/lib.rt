@@ -6,7 +6,7 @@ ghost use Rattle.refusal.specs.Refusals.{numberOf, placeOf};
 // A case for each thing that can be wrong, in checking order. A case that has a place holds it:
 // the entry of a map, the cell of a batch, the child of a merger's four, the query of a test's two.
 pub enum Refusal {
-    // The depth is over the largest, or 0 in an add call, or a merger's parent depth is the largest.
+    // The depth is over the largest, or a merger's parent depth is the largest.
     DepthOutOfRange,
     // M, the shallowest parent depth at which merging is allowed, is over the largest depth.
     DepthThresholdOutOfRange,
@@ -18,6 +18,8 @@ pub enum Refusal {
     LengthMismatch,
     // A held or given map is invalid at this entry.
     InvalidMap(usize),
+    // This entry of a map to be narrowed is deeper than narrow maps are.
+    EntryTooDeep(usize),
     // A held or given density is NaN, infinite or below 0 at this entry.
     InvalidMapDensity(usize),
     // The hash of this cell is not one of its depth.
@@ -48,6 +50,7 @@ impl Refusal {
             Refusal::InvalidFactor => 3,
             Refusal::LengthMismatch => 4,
             Refusal::InvalidMap(_) => 5,
+            Refusal::EntryTooDeep(_) => 13,
             Refusal::InvalidMapDensity(_) => 6,
             Refusal::HashOutOfRange(_) => 7,
             Refusal::CellNotAbove(_) => 8,
@@ -70,6 +73,7 @@ impl Refusal {
             Refusal::InvalidFactor => 0,
             Refusal::LengthMismatch => 0,
             Refusal::InvalidMap(entry) => entry,
+            Refusal::EntryTooDeep(entry) => entry,
             Refusal::InvalidMapDensity(entry) => entry,
             Refusal::HashOutOfRange(cell) => cell,
             Refusal::CellNotAbove(cell) => cell,

@@ -1,22 +1,23 @@
--- The zuniqs of count rows, one by one. Assumes nothing.
+-- The zuniqs of rows, one by one. For rows of any size and zuniqs of any width. Assumes nothing.
 use mathlib.Core.Path.{_≡_, sym}
 use mathlib.Core.List.{List}
-use Prim.Native.Nat.{ℕ, _+_, _*_, _/_, _≤_, _<_}
-use native.Mathlib.Omega.{arith}
+use Prim.Native.Nat.{ℕ, _*_, _/_, _≤_, _<_}
+use native.Mathlib.Nat.{add-zero}
 use lib.ListN.{length, getD, take, drop, List·getD-eq-default}
 use Rattle.rows.specs.LittleEndian.{fromLeBytes}
 use Rattle.rows.specs.Rows.{numberIn, zuniqsOf}
 use Rattle.rows.proofs.Loops.{length-numbers, number-at}
 
--- There are as many zuniqs as rows.
-pub all-zuniqs : (bytes : List ℕ) → length (zuniqsOf bytes) ≡ length bytes / 12
-unfolding zuniqsOf
-all-zuniqs bytes = length-numbers 12 0 8 bytes (length bytes / 12)
+module _ (k w : ℕ) (bytes : List ℕ) where
+  -- There are as many zuniqs as rows.
+  pub all-zuniqs : length (zuniqsOf k w bytes) ≡ length bytes / k
+  unfolding zuniqsOf
+  all-zuniqs = length-numbers k 0 w bytes (length bytes / k)
 
--- The zuniq of a row is read from its first 8 bytes; past the last row it is 0.
-pub zuniq-of-row : (bytes : List ℕ) (i : ℕ) → i < length bytes / 12 → fromLeBytes (take 8 (drop (i * 12) bytes)) ≡ getD (zuniqsOf bytes) i 0
-unfolding zuniqsOf numberIn
-zuniq-of-row bytes i l = let e : i * 12 + 0 ≡ i * 12 = omega arith in sym (rw e at (number-at 12 0 8 bytes (length bytes / 12) i l))
+  -- The zuniq of a row is read from its first bytes; past the last row it is 0.
+  pub zuniq-of-row : (i : ℕ) → i < length bytes / k → fromLeBytes (take w (drop (i * k) bytes)) ≡ getD (zuniqsOf k w bytes) i 0
+  unfolding zuniqsOf numberIn
+  zuniq-of-row i l = sym (rw (add-zero (i * k)) at (number-at k 0 w bytes (length bytes / k) i l))
 
-pub no-row : (bytes : List ℕ) (i : ℕ) → length bytes / 12 ≤ i → 0 ≡ getD (zuniqsOf bytes) i 0
-no-row bytes i l = sym (List·getD-eq-default (zuniqsOf bytes) 0 (rw (all-zuniqs bytes) l))
+  pub no-row : (i : ℕ) → length bytes / k ≤ i → 0 ≡ getD (zuniqsOf k w bytes) i 0
+  no-row i l = sym (List·getD-eq-default (zuniqsOf k w bytes) 0 (rw all-zuniqs l))

@@ -1,5 +1,5 @@
 -- Section 7 of the scope: rows. A table is its columns; row i is the numbers at place i of all columns, one behind the
--- other. The row size, and how many columns there are, is left open: count rows and density rows are two tables.
+-- other. The row size, and how many columns there are, is left open: count rows, density rows and narrow rows are three tables.
 use mathlib.Core.Bool.{Bool, false, not, _||_, cond}
 use mathlib.Core.List.{List, [], _∷_, _++_}
 use Prim.Native.Nat.{ℕ, zero, suc, _+_, _*_, _/_, _%_}
@@ -24,6 +24,10 @@ countRows zuniqs counts = column 8 zuniqs ∷ column 4 counts ∷ []
 -- "u64 zuniq, then [..] f64 density, little-endian, [..] 16 bytes": a density is its 64-bit pattern
 abbrev pub densityRows : List ℕ → List ℕ → List Column
 densityRows zuniqs patterns = column 8 zuniqs ∷ column 8 patterns ∷ []
+
+-- Note 2 of document 02, of narrow count maps: "rows of 8 bytes", u32 zuniq, then u32 count
+abbrev pub narrowRows : List ℕ → List ℕ → List Column
+narrowRows zuniqs counts = column 4 zuniqs ∷ column 4 counts ∷ []
 
 -- the bytes that a row takes
 unfoldable pub rowSize : List Column → ℕ
@@ -58,9 +62,10 @@ unfoldable pub filled : ℕ → ℕ → List ℕ → ℕ → List Column → Lis
 filled k at bytes n [] = []
 filled k at bytes n (c ∷ cs) = column (c .width) (numbersIn k at (c .width) bytes n ++ drop n (c .numbers)) ∷ filled k (at + c .width) bytes n cs
 
--- the zuniqs of count rows, all of them
-unfoldable pub zuniqsOf : List ℕ → List ℕ
-zuniqsOf bytes = numbersIn 12 0 8 bytes (length bytes / 12)
+-- the zuniqs of rows of k bytes, all of them, each in the first w bytes of its row: of count rows by 12 and 8, of narrow rows by
+-- 8 and 4
+unfoldable pub zuniqsOf : ℕ → ℕ → List ℕ → List ℕ
+zuniqsOf k w bytes = numbersIn k 0 w bytes (length bytes / k)
 
 -- ---- refusals, by the lengths of the columns alone
 

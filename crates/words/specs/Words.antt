@@ -8,11 +8,13 @@ use lib.Ieee.{Float}
 use Rattle.refusal.specs.Refusals.{numberOf, placeOf}
 use Rattle.refusal.specs.Told.{Told}
 use Rattle.refusal.specs.declared.Refusal.{Refusal}
-use Rattle.zuniq.specs.Told.{toldCells, toldZuniq, toldCell, toldOverlap}
+use Rattle.zuniq.specs.Told.{toldCells, toldZuniq, toldZuniq32, toldCell, toldCell32, toldOverlap}
 use Rattle.zuniq.specs.declared.CellNumber.{CellNumber}
 use Rattle.zuniq.specs.declared.Encoded.{Encoded}
 use Rattle.zuniq.specs.declared.Decoded.{Decoded}
 use Rattle.zuniq.specs.declared.Overlap.{Overlap}
+use Rattle.zuniq.specs.declared.narrow.Encoded32.{Encoded32}
+use Rattle.zuniq.specs.declared.narrow.Decoded32.{Decoded32}
 use Rattle.merger.specs.Told.{Four, toldCountMerger, toldDensityMerger}
 use Rattle.merger.specs.declared.CountMerger.{CountMerger}
 use Rattle.merger.specs.declared.DensityMerger.{DensityMerger}
@@ -24,6 +26,8 @@ use Rattle.mom.specs.declared.lookup.Run.{Run}
 use Rattle.build.specs.Told.{toldCounts, toldDensities}
 use Rattle.build.specs.declared.counts.CountsAdded.{CountsAdded}
 use Rattle.build.specs.declared.densities.DensitiesAdded.{DensitiesAdded}
+use Rattle.moving.specs.Told.{toldMoved}
+use Rattle.moving.specs.declared.Moved.{Moved}
 use Rattle.rows.specs.Told.{toldRows}
 use Rattle.rows.specs.declared.Rows.{Rows}
 use Rattle.density.specs.Told.{toldCountDensity, toldDensity, toldPattern}
@@ -77,6 +81,9 @@ cellNumberWord a old = besideWord (toldCells a) old
 unfoldable pub encodedWord : Encoded → ℕ → ℕ × ℕ
 encodedWord a old = besideWord (toldZuniq a) old
 
+unfoldable pub encoded32Word : Encoded32 → ℕ → ℕ × ℕ
+encoded32Word a old = besideWord (toldZuniq32 a) old
+
 -- the cell goes through two numbers
 abbrev pub cellWord : Option (ℕ × ℕ) → ℕ → ℕ → ℕ × ℕ × ℕ
 cellWord none depth hash = (wordOf nothing 0, depth, hash)
@@ -84,6 +91,9 @@ cellWord (some c) depth hash = (wordOf accepted 0, c .0, c .1)
 
 unfoldable pub decodedWord : Decoded → ℕ → ℕ → ℕ × ℕ × ℕ
 decodedWord a depth hash = cellWord (toldCell a) depth hash
+
+unfoldable pub decoded32Word : Decoded32 → ℕ → ℕ → ℕ × ℕ × ℕ
+decoded32Word a depth hash = cellWord (toldCell32 a) depth hash
 
 -- 1 or 0
 abbrev pub yesWord : Told Bool → ℕ
@@ -143,6 +153,14 @@ countsWord a old = bothWord (toldCounts a) old
 
 unfoldable pub densitiesWord : DensitiesAdded → ℕ
 densitiesWord a = inWord (toldDensities a)
+
+-- the depth and the number of entries of a map that is moved: the number is in the word, as it is of all calls that leave a map
+abbrev pub depthBeside : Told (ℕ × ℕ) → Told (ℕ × ℕ)
+depthBeside (Told.refused number place) = Told.refused number place
+depthBeside (Told.answer t) = Told.answer (t .1, t .0)
+
+unfoldable pub movedWord : Moved → ℕ → ℕ × ℕ
+movedWord a old = bothWord (depthBeside (toldMoved a)) old
 
 -- "Both row calls answer the number of rows"
 unfoldable pub rowsWord : Rows → ℕ

@@ -7,7 +7,7 @@
 //
 // Here are the words of cells and mergers; `map_words` has those of maps, rows and densities.
 ghost use mathlib.Core.Path.{_≡_};
-ghost use Rattle.words.specs.Words.{wordOf, refusalWord, cellNumberWord, encodedWord, decodedWord, overlapWord, countMergerWord, densityMergerWord};
+ghost use Rattle.words.specs.Words.{wordOf, refusalWord, cellNumberWord, encodedWord, encoded32Word, decodedWord, decoded32Word, overlapWord, countMergerWord, densityMergerWord};
 use merger::CountMerge;
 use merger::CountMerger;
 use merger::DensityMerge;
@@ -17,6 +17,8 @@ use zuniq::CellNumber;
 use zuniq::Decoded;
 use zuniq::Encoded;
 use zuniq::Overlap;
+use zuniq::narrow::Decoded32;
+use zuniq::narrow::Encoded32;
 
 pub const ACCEPTED: u8 = 0;
 
@@ -64,6 +66,19 @@ pub fn zuniq_word(answer: Encoded, zuniq: &mut u64) -> u64
     }
 }
 
+// The narrow zuniq of a cell.
+pub fn zuniq32_word(answer: Encoded32, zuniq: &mut u32) -> u64
+    ensures { λ r. ⌜ (r, now («zuniq» .exit)) ≡ encoded32Word answer (now («zuniq» .entry)) ⌝ }
+{
+    match answer {
+        Encoded32::Zuniq(narrow) => {
+            *zuniq = narrow;
+            word(ACCEPTED, 0)
+        }
+        Encoded32::Refused(refusal) => refused(refusal),
+    }
+}
+
 // The cell of a zuniq, or that there is none.
 pub fn cell_word(answer: Decoded, depth: &mut u8, hash: &mut u64) -> u64
     ensures { λ r. ⌜ (r, now (depth .exit), now (hash .exit)) ≡ decodedWord answer (now (depth .entry)) (now (hash .entry)) ⌝ }
@@ -73,6 +88,18 @@ pub fn cell_word(answer: Decoded, depth: &mut u8, hash: &mut u64) -> u64
     };
     *depth = cell.depth;
     *hash = cell.hash;
+    word(ACCEPTED, 0)
+}
+
+// The same of a narrow zuniq.
+pub fn cell32_word(answer: Decoded32, depth: &mut u8, hash: &mut u32) -> u64
+    ensures { λ r. ⌜ (r, now (depth .exit), now (hash .exit)) ≡ decoded32Word answer (now (depth .entry)) (now (hash .entry)) ⌝ }
+{
+    let Decoded32::Cell(narrow) = answer else {
+        return word(NOTHING, 0);
+    };
+    *depth = narrow.depth;
+    *hash = narrow.hash;
     word(ACCEPTED, 0)
 }
 

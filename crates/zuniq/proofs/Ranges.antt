@@ -8,14 +8,14 @@ use mathlib.Core.Bool.{true, false, or-true, or-comm, or-self, false≢true}
 use mathlib.Core.Logic.{_≢_, _⊎_, inl, ⊎-elim, ⊎-map, _↔_}
 use Prim.Native.Nat.{ℕ, suc, _+_, _*_, _≤_, _<_, _/_, _%_, _-_, _^_}
 use native.Mathlib.Nat.{mul-le-mul-right, mul-lt-mul-of-pos-right, le-of-mul-le-mul-right, lt-of-mul-lt-mul-right}
-use native.Mathlib.Nat.{pow-suc, pow-le-pow-right, div-one, div-mul-le-self, lt-div-mul-add, div-eq-of-lt-le, div-div-eq-div-mul}
+use native.Mathlib.Nat.{lt-of-le-of-lt, le-mul-of-pos-right, pow-suc, pow-le-pow-right, div-one, div-mul-le-self, lt-div-mul-add, div-eq-of-lt-le, div-div-eq-div-mul}
 use native.Mathlib.Numerals.{add-one}
 use native.Mathlib.Omega.{arith, by-contra}
 use lib.Dec.{leb, eqb}
 use borrow.Author.Tests.{le-leb, lt-leb, eq-eqb, leb-true, eqb-true}
 use Rattle.zuniq.specs.Cells.{nHash, childHash, liesIn, overlap, start, end}
 use Rattle.zuniq.specs.Codec.{zuniq}
-use Rattle.zuniq.proofs.Basics.{and-is-true, or-is-true, is-false, le-or-lt, four-pow-pos, four-pow-split, eqb-sym}
+use Rattle.zuniq.proofs.Basics.{and-is-true, or-is-true, is-false, le-or-lt, four-pow-pos, four-pow-split, four-pow-two, eqb-sym}
 
 -- ---- lying in
 -- A cell lies in another exactly if it is at least as deep and the other is its ancestor.
@@ -259,3 +259,13 @@ module _ (K : ℕ) where
   valid-iff-zuniq-lt d h m =
       let p = start-lt-end d h in
       rw zuniq-is-start-plus-end (λ l. omega (arith, valid-iff-end-le d h m .0 l), λ u. start-lt-iff d h (nHash d) .0 (omega (arith, sky-end d m)))
+
+  -- The hash with its sentinel bit is at most the zuniq.
+  pub sentinel-lt : (d h : ℕ) → d ≤ K → h < nHash d → 2 * h + 1 < 2 * nHash K
+  unfolding zuniq
+  sentinel-lt d h p q = lt-of-le-of-lt (le-mul-of-pos-right (2 * h + 1) (four-pow-pos (K - d))) (valid-iff-zuniq-lt d h p .0 q)
+
+  -- A zuniq is the hash with its sentinel bit, shifted.
+  pub zuniq-is-shifted : (d h : ℕ) → (2 * h + 1) * 2 ^ (2 * (K - d)) ≡ zuniq K d h
+  unfolding zuniq
+  zuniq-is-shifted d h = rw (← four-pow-two (K - d)) refl

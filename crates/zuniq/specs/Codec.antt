@@ -1,5 +1,5 @@
 -- Section 1 of the scope: zuniq, its coding and decoding, and the overlap test, over the largest depth K that the type
--- of the zuniqs holds: 29 for 64 bits.
+-- of the zuniqs holds: 29 for 64 bits, 13 for 32.
 use mathlib.Core.Bool.{Bool, _&&_, cond}
 use mathlib.Core.Path.{_≡_}
 use Prim.Native.Nat.{ℕ, zero, suc, _+_, _*_, _/_, _-_, _^_, _≤_, _<_}

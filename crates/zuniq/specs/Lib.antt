@@ -1,3 +1,4 @@
 pub mod Cells
 pub mod Codec
+pub mod Codec32
 pub mod Told

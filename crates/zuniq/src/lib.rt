@@ -3,7 +3,7 @@
 // A cell of the sky is a depth, 0 to 29, and a hash below N(depth) = 12 * 4^depth. Its zuniq is
 // one u64 for both: from the top the 4 bits of the base cell, 2 bits for each depth, a sentinel
 // bit and zeros. So the order of zuniqs is the order of the cells along the sky, and the number of
-// trailing zeros gives the depth.
+// trailing zeros gives the depth. `narrow` has the same in a u32, for depths of 0 to 13.
 //
 // Refused: a depth over 29 (number 1), a hash that the depth does not have (7), and in the overlap
 // test a value that is no zuniq (12, place 0 or 1).
@@ -12,6 +12,8 @@ ghost use Prim.Native.Nat.{_≤_, _<_};
 ghost use Rattle.zuniq.specs.Cells.{nHash, overlap};
 ghost use Rattle.zuniq.specs.Codec.{zuniq, cellNumber, encode, decode, overlapTest};
 use refusal::Refusal;
+
+pub mod narrow;
 
 // A cell of the sky.
 pub struct Cell {
@@ -166,18 +168,18 @@ impl Zuniq64 {
         let Decoded::Cell(r) = Self::from_zuniq(zuniq_r) else {
             return Overlap::Refused(Refusal::InvalidQuery(1));
         };
-        Overlap::Answer(Self::are_overlapping_cells(l.depth, l.hash, r.depth, r.hash))
+        Overlap::Answer(are_overlapping_cells(l.depth, l.hash, r.depth, r.hash))
     }
+}
 
-    // Whether one of two cells lies in the other: the deeper one's ancestor at the other's depth is
-    // that other.
-    fn are_overlapping_cells(depth_l: u8, hash_l: u64, depth_r: u8, hash_r: u64) -> bool
-        requires { ⌜ («depth_l» ≤ 29) × («depth_r» ≤ 29) ⌝ }
-        ensures { λ r. ⌜ r ≡ overlap «depth_l» «hash_l» «depth_r» «hash_r» ⌝ }
-    {
-        if depth_l <= depth_r {
-            return hash_l == hash_r >> (Self::DIM * (depth_r - depth_l));
-        }
-        hash_r == hash_l >> (Self::DIM * (depth_l - depth_r))
+// Whether one of two cells lies in the other: the deeper one's ancestor at the other's depth is that
+// other.
+pub(crate) fn are_overlapping_cells(depth_l: u8, hash_l: u64, depth_r: u8, hash_r: u64) -> bool
+    requires { ⌜ («depth_l» ≤ 29) × («depth_r» ≤ 29) ⌝ }
+    ensures { λ r. ⌜ r ≡ overlap «depth_l» «hash_l» «depth_r» «hash_r» ⌝ }
+{
+    if depth_l <= depth_r {
+        return hash_l == hash_r >> (Zuniq64::DIM * (depth_r - depth_l));
     }
+    hash_r == hash_l >> (Zuniq64::DIM * (depth_l - depth_r))
 }

@@ -1,10 +1,10 @@
 -- `check_held` meets its contract: each check is one row of the table. Assumes nothing.
 use mathlib.Core.Path.{_≡_, refl, ap, sym, _∙_}
 use mathlib.Core.Option.{none}
-use Prim.Native.Nat.{ℕ, _≤_}
+use Prim.Native.Nat.{_≤_}
 use lib.ListN.{length, take}
 use lib.Seq.{length-take-le}
-use Rattle.mom.specs.Map.{firstFault, ValidMap}
+use Rattle.mom.specs.Map.{firstFault}
 use Rattle.build.specs.declared.HeldMap.{HeldMap}
 use Rattle.build.specs.Add.{settingsRefusal, lengthsRefusal, mapRefusal, heldRefusal}
 use Rattle.build.proofs.Checking.{check-passed, check-refused, settings-pass, lengths-pass, map-passes}
@@ -13,7 +13,7 @@ use Rattle.build.proofs.check_held.Statement.{statement}
 use Rattle.build.proofs.check_held.Tie as tie
 
 -- ---- what has passed
-settings-passed : (c : tie.After-enum-told) → let a = c .before .before .before .before .args in settingsRefusal (a .depth) (a .depth-threshold) (a .chi2-threshold) ≡ none
+settings-passed : (c : tie.After-enum-told) → let a = c .before .before .before .before .args in settingsRefusal 29 (a .depth) (a .depth-threshold) (a .chi2-threshold) ≡ none
 settings-passed c = check-passed _ (sym (c .enum-told .given .1) ∙ c .before .before .check-settings .ensures)
 
 lengths-passed : (c : tie.After-enum-told2) → let a = c .before .before .before .before .before .before .before .args in
@@ -40,7 +40,7 @@ returns : tie.Need-returns
 unfolding heldRefusal
 returns c =
     let a = c .before .before .before .before .before .args in
-    rw (check-refused (settingsRefusal (a .depth) (a .depth-threshold) (a .chi2-threshold)) _ (sym (c .before .refusal .given .1) ∙ c .before .before .before .check-settings .ensures)) refl
+    rw (check-refused (settingsRefusal 29 (a .depth) (a .depth-threshold) (a .chi2-threshold)) _ (sym (c .before .refusal .given .1) ∙ c .before .before .before .check-settings .ensures)) refl
 
 enum-told : tie.Need-enum-told
 enum-told c = search needs
@@ -86,7 +86,7 @@ end-of-map-requires : tie.Need-end-of-map-requires
 end-of-map-requires c κs =
     let a = c .before .before .before .before .before .before .before .before .before .before .before .args in
     let settings = settings-passed (c .before .before .before .before .before .before .before) in
-    (settings-pass (a .depth) (a .depth-threshold) (a .chi2-threshold) settings, map-passes (a .depth) (take (a .held) (a .zuniqs .now)) (map-passed c))
+    (settings-pass 29 (a .depth) (a .depth-threshold) (a .chi2-threshold) settings, map-passes 29 (a .depth) (take (a .held) (a .zuniqs .now)) (map-passed c))
 
 returns-4 : tie.Need-returns-4
 unfolding heldRefusal

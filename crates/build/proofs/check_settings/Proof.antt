@@ -10,11 +10,11 @@ use Rattle.build.proofs.check_settings.Statement.{statement}
 use Rattle.build.proofs.check_settings.Tie as tie
 
 -- ---- row 1
-too-deep : (c : tie.Then1) → ltb 29 (c .before .args .depth) ≡ true
-too-deep c = lt-ltb 29 (c .before .args .depth) (omega (arith, c .if1 .taken))
+too-deep : (c : tie.Then1) → ltb (c .before .args .max-depth) (c .before .args .depth) ≡ true
+too-deep c = lt-ltb (c .before .args .max-depth) (c .before .args .depth) (omega (arith, c .if1 .taken))
 
-not-too-deep : (c : tie.Else1) → ltb 29 (c .before .args .depth) ≡ false
-not-too-deep c = le-ltb 29 (c .before .args .depth) (omega (arith, c .if1 .left))
+not-too-deep : (c : tie.Else1) → ltb (c .before .args .max-depth) (c .before .args .depth) ≡ false
+not-too-deep c = le-ltb (c .before .args .max-depth) (c .before .args .depth) (omega (arith, c .if1 .left))
 
 -- ---- the answers
 returns : tie.Need-returns

@@ -2,12 +2,15 @@
 use native.Mathlib.Omega.{arith}
 use Prim.Native.Nat.{_+_, _^_, _<_}
 use borrow.Author.Needs.{needs}
-use Rattle.build.proofs.Siblings.{hash-fits, siblings-stored}
+use Rattle.zuniq.specs.Cells.{nHash}
+use Rattle.build.proofs.Ends.{n-hash-mono}
+use Rattle.build.proofs.Siblings.{siblings-stored}
 use Rattle.build_counts.proofs.append_siblings.Statement.{statement}
 use Rattle.build_counts.proofs.append_siblings.Tie as tie
 
 hashes-fit : (c : tie.Start) → c .args .hash + 3 < 2 ^ 64
-hashes-fit c = hash-fits (c .args .depth) (c .args .hash) (c .pre .3) (omega (arith, c .pre .4))
+unfolding nHash
+hashes-fit c = omega (arith, c .pre .4, n-hash-mono (c .args .depth) 29 (c .pre .3))
 
 to-zuniq-unchecked-requires : tie.Need-to-zuniq-unchecked-requires
 to-zuniq-unchecked-requires c κs = search needs

@@ -2,9 +2,8 @@
 use mathlib.Core.Path.{_≡_, refl, sym, _∙_}
 use mathlib.Core.Option.{none}
 use Prim.Native.Nat.{_+_}
-use native.Mathlib.Omega.{arith}
 use lib.ListN.{length}
-use Rattle.build.specs.Add.{hashesRefusal, sumOf, cappedSum, totalRefusal, spaceRefusal}
+use Rattle.build.specs.Add.{hashesRefusal, sumOf, totalRefusal, spaceRefusal}
 use Rattle.build.specs.Counts.{totalOr}
 use Rattle.build.proofs.Checking.{check-passed, check-refused, refuses, total-passed, total-refused, total-uncapped}
 use borrow.Author.Needs.{needs}
@@ -45,8 +44,7 @@ capped-sum-requires : tie.Need-capped-sum-requires
 capped-sum-requires c κs = search needs
 
 check-total-requires : tie.Need-check-total-requires
-unfolding cappedSum
-check-total-requires c κs = omega (arith, c .capped-sum .ensures)
+check-total-requires c κs = search needs
 
 enum-known-total : tie.Need-enum-known-total
 enum-known-total c = search needs

@@ -1,26 +1,10 @@
 -- `run_part` meets its contract. Assumes nothing.
-use mathlib.Core.Path.{_≡_, refl}
-use mathlib.Core.List.{List, []}
-use Prim.Native.Nat.{ℕ, _+_, _*_, _-_}
+use mathlib.Core.Path.{refl}
 use native.Mathlib.Omega.{arith}
-use lib.ListN.{take, drop}
-use denote.Ref.{RefT, ptr, now}
 use borrow.Author.Needs.{needs}
-use Rattle.refusal.specs.declared.Refusal.{Refusal}
-use Rattle.mom.specs.declared.lookup.Run.{Run}
-use Rattle.mom.specs.Lookup.{partOf, addressOf}
+use Rattle.mom.proofs.Answers.{part-of-entries, part-of-refused}
 use Rattle.lookup.proofs.run_part.Statement.{statement}
 use Rattle.lookup.proofs.run_part.Tie as tie
-
-module _ (zs : RefT (List ℕ)) (run : Run) where
-  part-of-entries : (first len : ℕ) → run ≡ Run.Entries first len
-      → (take (first + len - first) (drop first (now zs)) ≡ partOf (now zs) run) × ((ptr zs .0, first * 8 + ptr zs .1) ≡ addressOf 8 (ptr zs) run)
-  unfolding partOf addressOf
-  part-of-entries first len e = let n : first + len - first ≡ len = omega arith in rw (e, n) (refl, refl)
-
-  part-of-refused : (r : Refusal) → run ≡ Run.Refused r → ([] ≡ partOf (now zs) run) × ((ptr zs .0, 0 * 8 + ptr zs .1) ≡ addressOf 8 (ptr zs) run)
-  unfolding partOf addressOf
-  part-of-refused r e = let n : 0 * 8 + ptr zs .1 ≡ ptr zs .1 = omega arith in rw (e, n) (refl, refl)
 
 enum-known-run : tie.Need-enum-known-run
 enum-known-run c = search needs
@@ -53,14 +37,10 @@ part-result-end-2 : tie.Need-part-result-end-2
 part-result-end-2 c = search needs
 
 returns : tie.Need-returns
-returns c =
-    let part = part-of-entries (c .before .before .before .before .args .zuniqs) _ _ _ (c .before .before .run .given .1) in
-    record { entries = part .0; address = part .1 }
+returns c = part-of-entries (c .before .before .run .given .1) refl refl
 
 returns-2 : tie.Need-returns-2
-returns-2 c =
-    let part = part-of-refused (c .before .before .before .args .zuniqs) _ _ (c .before .enum-told .given .1) in
-    record { entries = part .0; address = part .1 }
+returns-2 c = part-of-refused (c .before .enum-told .given .1) refl refl
 
 pub run-part-spec : {M : Type 1} → statement M
 run-part-spec =

@@ -1,13 +1,14 @@
 -- `check_is_mom` meets its contract. Assumes nothing.
 use mathlib.Core.Path.{ap, sym, _∙_}
 use Rattle.mom.specs.Map.{validOr}
+use Rattle.map_rows.specs.MapRows.{wide}
 use Rattle.map_rows.proofs.OverRows.{check-too-deep, check-refused, check-of-rows}
 use borrow.Author.Needs.{needs}
 use Rattle.map_rows.proofs.check_is_mom.Statement.{statement}
 use Rattle.map_rows.proofs.check_is_mom.Tie as tie
 
 returns : tie.Need-returns
-returns c = let a = c .before .before .args in check-too-deep (a .bytes .now) (a .depth) (c .if1 .taken)
+returns c = let a = c .before .before .args in check-too-deep wide (a .bytes .now) (a .depth) (c .if1 .taken)
 
 map-rows-requires : tie.Need-map-rows-requires
 map-rows-requires c κs = search needs
@@ -18,7 +19,7 @@ enum-known-refusal c = search needs
 returns-2 : tie.Need-returns-2
 returns-2 c =
     let a = c .before .before .before .before .before .before .args in
-    check-refused (a .bytes .now) (a .depth) (c .before .before .before .before .if1 .left) _ (sym (c .before .before .before .map-rows .ensures) ∙ c .before .refusal .given .1)
+    check-refused wide (a .bytes .now) (a .depth) (c .before .before .before .before .if1 .left) _ (sym (c .before .before .before .map-rows .ensures) ∙ c .before .refusal .given .1)
 
 enum-told : tie.Need-enum-told
 enum-told c = search needs
@@ -38,7 +39,7 @@ returns-3 c =
     let rows = c .before .before .before in
     let a = rows .before .before .before .before .before .args in
     sym (ap validOr (sym (c .before .before .first-fault .ensures) ∙ c .enum-told2 .given .1))
-    ∙ check-of-rows (a .bytes .now) (a .depth) (rows .before .before .before .if1 .left) _ (sym (rows .before .before .map-rows .ensures) ∙ rows .enum-told .given .1)
+    ∙ check-of-rows wide (a .bytes .now) (a .depth) (rows .before .before .before .if1 .left) _ (sym (rows .before .before .map-rows .ensures) ∙ rows .enum-told .given .1)
 
 returns-4 : tie.Need-returns-4
 unfolding validOr
@@ -46,7 +47,7 @@ returns-4 c =
     let rows = c .before .before .before .before in
     let a = rows .before .before .before .before .before .args in
     sym (ap validOr (sym (c .before .before .before .first-fault .ensures) ∙ c .before .place .given .1))
-    ∙ check-of-rows (a .bytes .now) (a .depth) (rows .before .before .before .if1 .left) _ (sym (rows .before .before .map-rows .ensures) ∙ rows .enum-told .given .1)
+    ∙ check-of-rows wide (a .bytes .now) (a .depth) (rows .before .before .before .if1 .left) _ (sym (rows .before .before .map-rows .ensures) ∙ rows .enum-told .given .1)
 
 pub check-is-mom-spec : {M : Type 1} → statement M
 check-is-mom-spec =

@@ -9,12 +9,13 @@ use Rattle.mom.proofs.Ranges.{has-range}
 use Rattle.mom.proofs.Passed.{Passed, passed-none, passed-all, not-zuniq-here, too-deep-here, not-above-here, overlapping-here, passed-on}
 use Rattle.rows.specs.Rows.{zuniqsOf}
 use Rattle.rows.proofs.Zuniqs.{all-zuniqs}
+use Rattle.map_rows.specs.MapRows.{wide}
 use Rattle.map_rows.proofs.OverRows.{in-rows}
 use Rattle.map_rows.proofs.first_fault.Statement.{statement}
 use Rattle.map_rows.proofs.first_fault.Tie as tie
 
 abbrev Inv-loop : tie.InvT-loop
-Inv-loop depth bytes zuniq-before₀ end-before₀ row₀ zuniq-before end-before row = Passed 29 depth (zuniqsOf bytes) zuniq-before end-before row
+Inv-loop depth bytes zuniq-before₀ end-before₀ row₀ zuniq-before end-before row = Passed 29 depth (zuniqsOf 12 8 bytes) zuniq-before end-before row
 
 abbrev μ-loop : tie.MeasureT-loop
 μ-loop depth bytes zuniq-before₀ end-before₀ row₀ zuniq-before end-before row = length bytes / 12 - row
@@ -38,7 +39,7 @@ returns : tie.Need-returns Inv-loop μ-loop
 returns c =
     let turn = c .before .before .before .before in
     let zuniq = c .before .before .before in
-    let within = in-rows (turn .before .before .before .args .bytes .now) (turn .before .loop .row) (omega (arith, turn .loop-test .taken)) in
+    let within = in-rows wide (turn .before .before .before .args .bytes .now) (turn .before .loop .row) (omega (arith, turn .loop-test .taken)) in
     sym (not-zuniq-here (turn .before .loop .inv) within (zuniq .zuniq-at .ensures) (sym (c .before .before .range-of .ensures) ∙ c .enum-told .given .1))
 
 returns-2 : tie.Need-returns-2 Inv-loop μ-loop
@@ -46,7 +47,7 @@ returns-2 c =
     let entry = c .before .before .before in
     let zuniq = entry .before .before .before in
     let turn = zuniq .before in
-    let within = in-rows (turn .before .before .before .args .bytes .now) (turn .before .loop .row) (omega (arith, turn .loop-test .taken)) in
+    let within = in-rows wide (turn .before .before .before .args .bytes .now) (turn .before .loop .row) (omega (arith, turn .loop-test .taken)) in
     let range = has-range 29 _ _ (sym (entry .before .before .range-of .ensures) ∙ entry .range .given .1) in
     sym (too-deep-here (turn .before .loop .inv) within (zuniq .zuniq-at .ensures) range (c .if1 .taken))
 
@@ -56,7 +57,7 @@ returns-3 c =
     let entry = deep .before .before .before in
     let zuniq = entry .before .before .before in
     let turn = zuniq .before in
-    let within = in-rows (turn .before .before .before .args .bytes .now) (turn .before .loop .row) (omega (arith, turn .loop-test .taken)) in
+    let within = in-rows wide (turn .before .before .before .args .bytes .now) (turn .before .loop .row) (omega (arith, turn .loop-test .taken)) in
     let range = has-range 29 _ _ (sym (entry .before .before .range-of .ensures) ∙ entry .range .given .1) in
     sym (not-above-here (turn .before .loop .inv) within (zuniq .zuniq-at .ensures) range (deep .if1 .left) (c .before .if2 .taken) (c .if3 .taken))
 
@@ -66,7 +67,7 @@ returns-4 c =
     let entry = deep .before .before .before in
     let zuniq = entry .before .before .before in
     let turn = zuniq .before in
-    let within = in-rows (turn .before .before .before .args .bytes .now) (turn .before .loop .row) (omega (arith, turn .loop-test .taken)) in
+    let within = in-rows wide (turn .before .before .before .args .bytes .now) (turn .before .loop .row) (omega (arith, turn .loop-test .taken)) in
     let range = has-range 29 _ _ (sym (entry .before .before .range-of .ensures) ∙ entry .range .given .1) in
     sym (overlapping-here (turn .before .loop .inv) within (zuniq .zuniq-at .ensures) range (deep .if1 .left) (c .before .if2 .taken) (c .if3 .left))
 
@@ -82,12 +83,12 @@ loop-again c =
     let entry = deep .before .before .before in
     let zuniq = entry .before .before .before in
     let turn = zuniq .before in
-    let within = in-rows (turn .before .before .before .args .bytes .now) (turn .before .loop .row) (omega (arith, turn .loop-test .taken)) in
+    let within = in-rows wide (turn .before .before .before .args .bytes .now) (turn .before .loop .row) (omega (arith, turn .loop-test .taken)) in
     let range = has-range 29 _ _ (sym (entry .before .before .range-of .ensures) ∙ entry .range .given .1) in
     passed-on (turn .before .loop .inv) within (zuniq .zuniq-at .ensures) range (deep .if1 .left) (c .if2 .left)
 
 returns-5 : tie.Need-returns-5 Inv-loop μ-loop
-returns-5 c = sym (passed-all (c .before .loop .inv) (omega (arith, c .loop-test .left, all-zuniqs (c .before .before .before .args .bytes .now))))
+returns-5 c = sym (passed-all (c .before .loop .inv) (omega (arith, c .loop-test .left, all-zuniqs 12 8 (c .before .before .before .args .bytes .now))))
 
 pub first-fault-spec : {M : Type 1} → statement M
 first-fault-spec =

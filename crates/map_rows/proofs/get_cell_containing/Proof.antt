@@ -5,13 +5,14 @@ use native.Mathlib.Omega.{arith}
 use Rattle.mom.proofs.Ranges.{has-range}
 use Rattle.mom.proofs.Answers.{not-zuniq-refused, not-at-depth-refused, at-answer, nothing-answer}
 use Rattle.rows.proofs.Zuniqs.{all-zuniqs}
+use Rattle.map_rows.specs.MapRows.{wide}
 use Rattle.map_rows.proofs.OverRows.{in-rows, containing-too-deep, containing-refused, containing-of-rows}
 use borrow.Author.Needs.{needs}
 use Rattle.map_rows.proofs.get_cell_containing.Statement.{statement}
 use Rattle.map_rows.proofs.get_cell_containing.Tie as tie
 
 returns : tie.Need-returns
-returns c = let a = c .before .before .args in containing-too-deep (a .bytes .now) (a .depth) (a .zuniq) (c .if1 .taken)
+returns c = let a = c .before .before .args in containing-too-deep wide (a .bytes .now) (a .depth) (a .zuniq) (c .if1 .taken)
 
 map-rows-requires : tie.Need-map-rows-requires
 map-rows-requires c κs = search needs
@@ -22,7 +23,7 @@ enum-known-refusal c = search needs
 returns-2 : tie.Need-returns-2
 returns-2 c =
     let a = c .before .before .before .before .before .before .args in
-    containing-refused (a .bytes .now) (a .depth) (c .before .before .before .before .if1 .left) (a .zuniq) _ (sym (c .before .before .before .map-rows .ensures) ∙ c .before .refusal .given .1)
+    containing-refused wide (a .bytes .now) (a .depth) (c .before .before .before .before .if1 .left) (a .zuniq) _ (sym (c .before .before .before .map-rows .ensures) ∙ c .before .refusal .given .1)
 
 enum-told : tie.Need-enum-told
 enum-told c = search needs
@@ -41,7 +42,7 @@ returns-3 c =
     let rows = c .before .before .before in
     let a = rows .before .before .before .before .before .args in
     let deep = rows .before .before .before .if1 .left in
-    containing-of-rows (a .bytes .now) (a .depth) deep (a .zuniq) _ _ (sym (rows .before .before .map-rows .ensures) ∙ rows .enum-told .given .1)
+    containing-of-rows wide (a .bytes .now) (a .depth) deep (a .zuniq) _ _ (sym (rows .before .before .map-rows .ensures) ∙ rows .enum-told .given .1)
     (not-zuniq-refused deep (sym (c .before .before .range-of .ensures) ∙ c .enum-told2 .given .1))
 
 returns-4 : tie.Need-returns-4
@@ -51,7 +52,7 @@ returns-4 c =
     let a = rows .before .before .before .before .before .args in
     let deep = rows .before .before .before .if1 .left in
     let range = has-range 29 _ _ (sym (query .before .before .range-of .ensures) ∙ query .query .given .1) in
-    let answer = containing-of-rows (a .bytes .now) (a .depth) deep (a .zuniq) _ _ (sym (rows .before .before .map-rows .ensures) ∙ rows .enum-told .given .1) in
+    let answer = containing-of-rows wide (a .bytes .now) (a .depth) deep (a .zuniq) _ _ (sym (rows .before .before .map-rows .ensures) ∙ rows .enum-told .given .1) in
     answer (not-at-depth-refused deep range (λ same. omega (arith, c .if2 .taken)))
 
 lower-bound-requires : tie.Need-lower-bound-requires
@@ -71,9 +72,9 @@ returns-5 c =
     let a = rows .before .before .before .before .before .args in
     let deep = rows .before .before .before .if1 .left in
     let range = has-range 29 _ _ (sym (query .before .before .range-of .ensures) ∙ query .query .given .1) in
-    let answer = containing-of-rows (a .bytes .now) (a .depth) deep (a .zuniq) _ _ (sym (rows .before .before .map-rows .ensures) ∙ rows .enum-told .given .1) in
+    let answer = containing-of-rows wide (a .bytes .now) (a .depth) deep (a .zuniq) _ _ (sym (rows .before .before .map-rows .ensures) ∙ rows .enum-told .given .1) in
     answer
-    (at-answer deep range (omega (arith, at .before .if2 .left)) (in-rows (a .bytes .now) (at .lower-bound .result) (omega (arith, c .before .before .before .if3 .taken)))
+    (at-answer deep range (omega (arith, at .before .if2 .left)) (in-rows wide (a .bytes .now) (at .lower-bound .result) (omega (arith, c .before .before .before .if3 .taken)))
     (rw (c .before .before .zuniq-at .ensures) at (sym (c .before .is-overlapped .ensures) ∙ c .if4 .taken)))
 
 sub-left : tie.Need-sub-left
@@ -93,7 +94,7 @@ returns-6 c =
     let a = rows .before .before .before .before .before .args in
     let deep = rows .before .before .before .if1 .left in
     let range = has-range 29 _ _ (sym (query .before .before .range-of .ensures) ∙ query .query .given .1) in
-    let answer = containing-of-rows (a .bytes .now) (a .depth) deep (a .zuniq) _ _ (sym (rows .before .before .map-rows .ensures) ∙ rows .enum-told .given .1) in
+    let answer = containing-of-rows wide (a .bytes .now) (a .depth) deep (a .zuniq) _ _ (sym (rows .before .before .map-rows .ensures) ∙ rows .enum-told .given .1) in
     answer
     (at-answer deep range (omega (arith, at .before .if2 .left)) (omega (arith, at .lower-bound .ensures .within, c .before .before .before .if5 .taken))
     (rw (c .before .before .zuniq-at2 .ensures) at (sym (c .before .is-overlapped2 .ensures) ∙ c .if6 .taken)))
@@ -106,8 +107,8 @@ returns-7 c =
     let a = rows .before .before .before .before .before .args in
     let deep = rows .before .before .before .if1 .left in
     let range = has-range 29 _ _ (sym (query .before .before .range-of .ensures) ∙ query .query .given .1) in
-    let answer = containing-of-rows (a .bytes .now) (a .depth) deep (a .zuniq) _ _ (sym (rows .before .before .map-rows .ensures) ∙ rows .enum-told .given .1) in
-    let count = all-zuniqs (a .bytes .now) in
+    let answer = containing-of-rows wide (a .bytes .now) (a .depth) deep (a .zuniq) _ _ (sym (rows .before .before .map-rows .ensures) ∙ rows .enum-told .given .1) in
+    let count = all-zuniqs 12 8 (a .bytes .now) in
     answer
     (nothing-answer deep range (omega (arith, at .before .if2 .left)) (at .lower-bound .ensures)
     (λ _. rw (c .before .before .zuniq-at2 .ensures) at (sym (c .before .is-overlapped2 .ensures) ∙ c .if6 .left))
@@ -121,8 +122,8 @@ returns-8 c =
     let a = rows .before .before .before .before .before .args in
     let deep = rows .before .before .before .if1 .left in
     let range = has-range 29 _ _ (sym (query .before .before .range-of .ensures) ∙ query .query .given .1) in
-    let answer = containing-of-rows (a .bytes .now) (a .depth) deep (a .zuniq) _ _ (sym (rows .before .before .map-rows .ensures) ∙ rows .enum-told .given .1) in
-    let count = all-zuniqs (a .bytes .now) in
+    let answer = containing-of-rows wide (a .bytes .now) (a .depth) deep (a .zuniq) _ _ (sym (rows .before .before .map-rows .ensures) ∙ rows .enum-told .given .1) in
+    let count = all-zuniqs 12 8 (a .bytes .now) in
     answer
     (nothing-answer deep range (omega (arith, at .before .if2 .left)) (at .lower-bound .ensures) (λ l. absurd (omega arith))
     (λ l. ⊎-elim (λ w. rw (w .1 .ensures) at (sym (w .2 .ensures) ∙ w .3 .left)) (λ w. absurd (omega arith)) (c .before .if3 .came)))

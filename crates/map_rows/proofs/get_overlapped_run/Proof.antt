@@ -3,6 +3,7 @@ use mathlib.Core.Path.{sym, _∙_}
 use native.Mathlib.Omega.{arith}
 use Rattle.mom.proofs.Ranges.{has-range}
 use Rattle.mom.proofs.Answers as answers
+use Rattle.map_rows.specs.MapRows.{wide}
 use Rattle.map_rows.proofs.OverRows.{run-refused, run-of-rows}
 use borrow.Author.Needs.{needs}
 use Rattle.map_rows.proofs.get_overlapped_run.Statement.{statement}
@@ -17,7 +18,7 @@ enum-known-refusal c = search needs
 returns : tie.Need-returns
 returns c =
     let a = c .before .before .before .before .before .args in
-    run-refused (a .bytes .now) (a .zuniq) _ (sym (c .before .before .before .map-rows .ensures) ∙ c .before .refusal .given .1)
+    run-refused wide (a .bytes .now) (a .zuniq) _ (sym (c .before .before .before .map-rows .ensures) ∙ c .before .refusal .given .1)
 
 enum-told : tie.Need-enum-told
 enum-told c = search needs
@@ -35,7 +36,7 @@ returns-2 : tie.Need-returns-2
 returns-2 c =
     let rows = c .before .before .before in
     let a = rows .before .before .before .before .args in
-    run-of-rows (a .bytes .now) (a .zuniq) _ _ (sym (rows .before .before .map-rows .ensures) ∙ rows .enum-told .given .1)
+    run-of-rows wide (a .bytes .now) (a .zuniq) _ _ (sym (rows .before .before .map-rows .ensures) ∙ rows .enum-told .given .1)
     (answers.run-refused (sym (c .before .before .range-of .ensures) ∙ c .enum-told2 .given .1))
 
 lower-bound-requires : tie.Need-lower-bound-requires
@@ -57,7 +58,7 @@ returns-3 c =
     let rows = query .before .before .before in
     let a = rows .before .before .before .before .args in
     let range = has-range 29 _ _ (sym (query .before .before .range-of .ensures) ∙ query .query .given .1) in
-    run-of-rows (a .bytes .now) (a .zuniq) _ _ (sym (rows .before .before .map-rows .ensures) ∙ rows .enum-told .given .1)
+    run-of-rows wide (a .bytes .now) (a .zuniq) _ _ (sym (rows .before .before .map-rows .ensures) ∙ rows .enum-told .given .1)
     (answers.run-answer range (at .lower-bound .ensures) (c .before .before .run-start .ensures) (c .before .run-end .ensures) (omega (arith, c .if1 .taken)))
 
 returns-4 : tie.Need-returns-4
@@ -67,7 +68,7 @@ returns-4 c =
     let rows = query .before .before .before in
     let a = rows .before .before .before .before .args in
     let range = has-range 29 _ _ (sym (query .before .before .range-of .ensures) ∙ query .query .given .1) in
-    run-of-rows (a .bytes .now) (a .zuniq) _ _ (sym (rows .before .before .map-rows .ensures) ∙ rows .enum-told .given .1)
+    run-of-rows wide (a .bytes .now) (a .zuniq) _ _ (sym (rows .before .before .map-rows .ensures) ∙ rows .enum-told .given .1)
     (answers.empty-answer range (at .lower-bound .ensures) (c .before .before .run-start .ensures) (c .before .run-end .ensures) (omega (arith, c .if1 .left)))
 
 pub get-overlapped-run-spec : {M : Type 1} → statement M

@@ -11,25 +11,25 @@ use Rattle.map_rows.proofs.lower_bound.Statement.{statement}
 use Rattle.map_rows.proofs.lower_bound.Tie as tie
 
 abbrev Inv-loop : tie.InvT-loop
-Inv-loop bytes zuniq lo₀ hi₀ lo hi = Bracket (zuniqsOf bytes) zuniq lo hi
+Inv-loop bytes zuniq lo₀ hi₀ lo hi = Bracket (zuniqsOf 12 8 bytes) zuniq lo hi
 
 abbrev μ-loop : tie.MeasureT-loop
 μ-loop bytes zuniq lo₀ hi₀ lo hi = hi - lo
 
 loop-holds : tie.Need-loop-holds Inv-loop μ-loop
-loop-holds c = bracket-all _ (sym (all-zuniqs (c .before .args .bytes .now)))
+loop-holds c = bracket-all _ (sym (all-zuniqs 12 8 (c .before .args .bytes .now)))
 
 sub-mid : tie.Need-sub-mid Inv-loop μ-loop
 sub-mid c = omega (arith, c .before .loop .inv .in-order)
 
 add-mid : tie.Need-add-mid Inv-loop μ-loop
-add-mid c = omega (arith, c .before .loop .inv .within, all-zuniqs (c .before .before .before .args .bytes .now))
+add-mid c = omega (arith, c .before .loop .inv .within, all-zuniqs 12 8 (c .before .before .before .args .bytes .now))
 
 zuniq-at-requires : tie.Need-zuniq-at-requires Inv-loop μ-loop
 zuniq-at-requires c κs = search needs
 
 add-lo : tie.Need-add-lo Inv-loop μ-loop
-add-lo c = omega (arith, c .before .before .before .loop .inv .within, all-zuniqs (c .before .before .before .before .before .args .bytes .now))
+add-lo c = omega (arith, c .before .before .before .loop .inv .within, all-zuniqs 12 8 (c .before .before .before .before .before .args .bytes .now))
 
 loop-less : tie.Need-loop-less Inv-loop μ-loop
 loop-less c = omega (arith, c .before .before .loop-test .taken)

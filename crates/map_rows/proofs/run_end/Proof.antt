@@ -13,7 +13,7 @@ use Rattle.map_rows.proofs.run_end.Statement.{statement}
 use Rattle.map_rows.proofs.run_end.Tie as tie
 
 abbrev Inv-loop : tie.InvT-loop
-Inv-loop bytes query place end₀ end = FoundFrom 29 (zuniqsOf bytes) query place end
+Inv-loop bytes query place end₀ end = FoundFrom 29 (zuniqsOf 12 8 bytes) query place end
 
 abbrev μ-loop : tie.MeasureT-loop
 μ-loop bytes query place end₀ end = length bytes / 12 - end
@@ -37,10 +37,10 @@ loop-less : tie.Need-loop-less Inv-loop μ-loop
 loop-less c = omega (arith, c .before .before .before .loop-test .taken)
 
 loop-again : tie.Need-loop-again Inv-loop μ-loop
-loop-again c = found-from (c .before .before .before .before .loop .inv) (omega (arith, c .before .before .before .loop-test .taken, all-zuniqs (c .before .before .before .before .before .before .args .bytes .now))) (rw (c .before .before .zuniq-at .ensures) at (sym (c .before .is-overlapped .ensures) ∙ not-false _ (c .if1 .left)))
+loop-again c = found-from (c .before .before .before .before .loop .inv) (omega (arith, c .before .before .before .loop-test .taken, all-zuniqs 12 8 (c .before .before .before .before .before .before .args .bytes .now))) (rw (c .before .before .zuniq-at .ensures) at (sym (c .before .is-overlapped .ensures) ∙ not-false _ (c .if1 .left)))
 
 returns-2 : tie.Need-returns-2 Inv-loop μ-loop
-returns-2 c = ends-with-all (c .before .loop .inv) (omega (arith, c .loop-test .left, all-zuniqs (c .before .before .before .args .bytes .now)))
+returns-2 c = ends-with-all (c .before .loop .inv) (omega (arith, c .loop-test .left, all-zuniqs 12 8 (c .before .before .before .args .bytes .now)))
 
 pub run-end-spec : {M : Type 1} → statement M
 run-end-spec =

@@ -10,7 +10,7 @@ use Rattle.map_rows.proofs.run_start.Statement.{statement}
 use Rattle.map_rows.proofs.run_start.Tie as tie
 
 abbrev Inv-loop : tie.InvT-loop
-Inv-loop bytes query place first₀ first = FoundBefore 29 (zuniqsOf bytes) query place first
+Inv-loop bytes query place first₀ first = FoundBefore 29 (zuniqsOf 12 8 bytes) query place first
 
 abbrev μ-loop : tie.MeasureT-loop
 μ-loop bytes query place first₀ first = first

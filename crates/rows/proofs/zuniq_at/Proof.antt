@@ -15,10 +15,10 @@ u64-at-requires c κs = search needs
 returns : tie.Need-returns
 returns c =
     let a = c .before .before .before .args in
-    c .u64-at .ensures ∙ zuniq-of-row (a .bytes .now) (a .row) (omega (arith, c .before .if1 .taken))
+    c .u64-at .ensures ∙ zuniq-of-row 12 8 (a .bytes .now) (a .row) (omega (arith, c .before .if1 .taken))
 
 returns-2 : tie.Need-returns-2
-returns-2 c = let a = c .before .before .args in no-row (a .bytes .now) (a .row) (omega (arith, c .if1 .left))
+returns-2 c = let a = c .before .before .args in no-row 12 8 (a .bytes .now) (a .row) (omega (arith, c .if1 .left))
 
 pub zuniq-at-spec : {M : Type 1} → statement M
 zuniq-at-spec = tie.close (tie.spec mul-u64-at u64-at-requires returns returns-2)

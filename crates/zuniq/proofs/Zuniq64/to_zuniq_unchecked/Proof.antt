@@ -1,32 +1,19 @@
 -- `Zuniq64::to_zuniq_unchecked` meets its contract: nothing is shifted out. Assumes nothing.
-use mathlib.Core.Path.{_≡_, refl}
-use Prim.Native.Nat.{ℕ, _+_, _*_, _-_, _^_, _≤_, _<_}
 use native.Mathlib.Omega.{arith}
-use native.Mathlib.Nat.{mod-eq-of-lt, le-mul-of-pos-right, lt-of-le-of-lt}
+use native.Mathlib.Nat.{mod-eq-of-lt}
 use borrow.Author.Needs.{needs}
 use Rattle.zuniq.specs.Cells.{nHash}
-use Rattle.zuniq.specs.Codec.{zuniq}
-use Rattle.zuniq.proofs.Basics.{four-pow-pos, four-pow-two}
-use Rattle.zuniq.proofs.Ranges.{valid-iff-zuniq-lt}
+use Rattle.zuniq.proofs.Ranges.{valid-iff-zuniq-lt, sentinel-lt, zuniq-is-shifted}
 use Rattle.zuniq.proofs.Zuniq64.to_zuniq_unchecked.Statement.{statement}
 use Rattle.zuniq.proofs.Zuniq64.to_zuniq_unchecked.Tie as tie
 
--- the hash with its sentinel bit is at most the zuniq
-with-sentinel : (d h : ℕ) → d ≤ 29 → h < nHash d → 2 * h + 1 < 2 * nHash 29
-unfolding zuniq
-with-sentinel d h p q = lt-of-le-of-lt (le-mul-of-pos-right (2 * h + 1) (four-pow-pos (29 - d))) (valid-iff-zuniq-lt 29 d h p .0 q)
-
-shifted : (d h : ℕ) → (2 * h + 1) * 2 ^ (2 * (29 - d)) ≡ zuniq 29 d h
-unfolding zuniq
-shifted d h = rw (← four-pow-two (29 - d)) refl
-
 mul-result : tie.Need-mul-result
 unfolding nHash
-mul-result c = omega (arith, with-sentinel (c .args .depth) (c .args .hash) (c .pre .0) (c .pre .1))
+mul-result c = omega (arith, sentinel-lt 29 (c .args .depth) (c .args .hash) (c .pre .0) (c .pre .1))
 
 add-result : tie.Need-add-result
 unfolding nHash
-add-result c = omega (arith, with-sentinel (c .args .depth) (c .args .hash) (c .pre .0) (c .pre .1))
+add-result c = omega (arith, sentinel-lt 29 (c .args .depth) (c .args .hash) (c .pre .0) (c .pre .1))
 
 sub-result : tie.Need-sub-result
 sub-result c = search needs
@@ -45,7 +32,7 @@ unfolding nHash
 returns c =
     let d = c .args .depth in
     let h = c .args .hash in
-    rw (shifted d h) (mod-eq-of-lt (omega (arith, valid-iff-zuniq-lt 29 d h (c .pre .0) .0 (c .pre .1))))
+    rw (zuniq-is-shifted 29 d h) (mod-eq-of-lt (omega (arith, valid-iff-zuniq-lt 29 d h (c .pre .0) .0 (c .pre .1))))
 
 pub to-zuniq-unchecked-spec : {M : Type 1} → statement M
 to-zuniq-unchecked-spec =

@@ -1,12 +1,12 @@
--- `Zuniq64::are_overlapping_cells` meets its contract. Assumes nothing.
+-- `are_overlapping_cells` meets its contract. Assumes nothing.
 use mathlib.Core.Path.{sym}
 use Prim.Native.Nat.{_-_}
 use native.Mathlib.Nat.{le-of-lt}
 use borrow.Author.Needs.{needs}
 use Rattle.zuniq.proofs.Basics.{four-pow-two}
 use Rattle.zuniq.proofs.Ranges.{overlap-sym, overlap-ancestor}
-use Rattle.zuniq.proofs.Zuniq64.are_overlapping_cells.Statement.{statement}
-use Rattle.zuniq.proofs.Zuniq64.are_overlapping_cells.Tie as tie
+use Rattle.zuniq.proofs.are_overlapping_cells.Statement.{statement}
+use Rattle.zuniq.proofs.are_overlapping_cells.Tie as tie
 
 mul-result : tie.Need-mul-result
 mul-result c = search needs

@@ -1,0 +1,5 @@
+pub mod Copying
+pub mod Deep
+pub mod Widths
+pub mod Moving
+pub mod Laws
