@@ -2,4 +2,4 @@
 use Prim.Native.Nat.{ℕ}
 
 abbrev pub kinds : ℕ
-kinds = 20
+kinds = 31

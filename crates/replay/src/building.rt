@@ -13,19 +13,19 @@ use build::counts::CountsAdded;
 use build::densities::DensitiesAdded;
 
 // D, M, T and the number held, in front of the four lists.
-struct Settings {
-    depth: u8,
-    depth_threshold: u8,
-    chi2_threshold: f64,
-    held: usize,
+pub struct Settings {
+    pub depth: u8,
+    pub depth_threshold: u8,
+    pub chi2_threshold: f64,
+    pub held: usize,
 }
 
-enum Read {
+pub enum Read {
     Settings(Settings),
     Unreadable,
 }
 
-fn read_settings(numbers: &[u64]) -> Read {
+pub(crate) fn read_settings(numbers: &[u64]) -> Read {
     if numbers.len() < 4 {
         return Read::Unreadable;
     }

@@ -25,6 +25,12 @@
 //     density_of_count DEPTH COUNT                  DENSITY
 //     density_of_pattern PATTERN                    DENSITY, or nothing
 //     pattern_of_density DENSITY                    PATTERN, or nothing
+//     narrow D ZUNIQS COUNTS ZUNIQS COUNTS          D ENTRIES ZUNIQS COUNTS
+//     widen D ZUNIQS COUNTS ZUNIQS COUNTS           D ENTRIES ZUNIQS COUNTS
+//
+// The calls on narrow maps, `narrow_to_zuniq` and so on, take and answer what those without `narrow_`
+// do, and `read_narrow_rows` and `write_narrow_rows` what those of count rows do. Their zuniqs and hashes
+// are u32s.
 use crate::answer::Answer;
 use crate::kind::Kind;
 
@@ -51,5 +57,16 @@ pub(crate) fn call(kind: Kind, numbers: &[u64]) -> Answer {
         Kind::DensityOfCount => crate::densities::density_of_count(numbers),
         Kind::DensityOfPattern => crate::densities::density_of_pattern(numbers),
         Kind::PatternOfDensity => crate::densities::pattern_of_density(numbers),
+        Kind::NarrowToZuniq => crate::narrow_cells::to_zuniq(numbers),
+        Kind::NarrowFromZuniq => crate::narrow_cells::from_zuniq(numbers),
+        Kind::NarrowAreOverlapping => crate::narrow_cells::are_overlapping(numbers),
+        Kind::NarrowCheckIsMom => crate::narrow_maps::check_is_mom(numbers),
+        Kind::NarrowContaining => crate::narrow_maps::get_cell_containing(numbers),
+        Kind::NarrowOverlapped => crate::narrow_maps::get_overlapped_cells(numbers),
+        Kind::NarrowAddCounts => crate::narrow_maps::add_counts(numbers),
+        Kind::ReadNarrowRows => crate::narrow_rows::read_narrow_rows(numbers),
+        Kind::WriteNarrowRows => crate::narrow_rows::write_narrow_rows(numbers),
+        Kind::Narrow => crate::widths::narrow(numbers),
+        Kind::Widen => crate::widths::widen(numbers),
     }
 }

@@ -50,7 +50,12 @@ pub(crate) fn are_overlapping(numbers: &[u64]) -> Answer {
     if numbers.len() < 2 {
         return Answer::unreadable();
     }
-    match Zuniq64::are_overlapping(numbers[0], numbers[1]) {
+    overlap_test(Zuniq64::are_overlapping(numbers[0], numbers[1]))
+}
+
+// What an overlap test answered, of either width.
+pub(crate) fn overlap_test(overlap: Overlap) -> Answer {
+    match overlap {
         Overlap::Answer(overlapping) => Answer::values(2).with(overlapping as u64),
         Overlap::Refused(refusal) => Answer::refused(refusal, 2),
     }

@@ -28,6 +28,17 @@ pub enum Kind {
     DensityOfCount,
     DensityOfPattern,
     PatternOfDensity,
+    NarrowToZuniq,
+    NarrowFromZuniq,
+    NarrowAreOverlapping,
+    NarrowCheckIsMom,
+    NarrowContaining,
+    NarrowOverlapped,
+    NarrowAddCounts,
+    ReadNarrowRows,
+    WriteNarrowRows,
+    Narrow,
+    Widen,
 }
 
 // What a word names.
@@ -36,7 +47,7 @@ pub enum Named {
     Nothing,
 }
 
-pub const KINDS: usize = 20;
+pub const KINDS: usize = 31;
 
 impl Kind {
     // The kind's place in an array with one for each kind.
@@ -64,6 +75,17 @@ impl Kind {
             Kind::DensityOfCount => 17,
             Kind::DensityOfPattern => 18,
             Kind::PatternOfDensity => 19,
+            Kind::NarrowToZuniq => 20,
+            Kind::NarrowFromZuniq => 21,
+            Kind::NarrowAreOverlapping => 22,
+            Kind::NarrowCheckIsMom => 23,
+            Kind::NarrowContaining => 24,
+            Kind::NarrowOverlapped => 25,
+            Kind::NarrowAddCounts => 26,
+            Kind::ReadNarrowRows => 27,
+            Kind::WriteNarrowRows => 28,
+            Kind::Narrow => 29,
+            Kind::Widen => 30,
         }
     }
 
@@ -89,33 +111,55 @@ impl Kind {
             16 => Kind::WriteDensityRows,
             17 => Kind::DensityOfCount,
             18 => Kind::DensityOfPattern,
-            _ => Kind::PatternOfDensity,
+            19 => Kind::PatternOfDensity,
+            20 => Kind::NarrowToZuniq,
+            21 => Kind::NarrowFromZuniq,
+            22 => Kind::NarrowAreOverlapping,
+            23 => Kind::NarrowCheckIsMom,
+            24 => Kind::NarrowContaining,
+            25 => Kind::NarrowOverlapped,
+            26 => Kind::NarrowAddCounts,
+            27 => Kind::ReadNarrowRows,
+            28 => Kind::WriteNarrowRows,
+            29 => Kind::Narrow,
+            _ => Kind::Widen,
         }
     }
 
     // The kind's word, the call's name, filled up by spaces, of which no word has one.
-    fn word(self) -> [u8; 24] {
+    fn word(self) -> [u8; 28] {
         match self {
-            Kind::NHash => *b"n_hash                  ",
-            Kind::ToZuniq => *b"to_zuniq                ",
-            Kind::FromZuniq => *b"from_zuniq              ",
-            Kind::AreOverlapping => *b"are_overlapping         ",
-            Kind::CountMerger => *b"chi2_count_merger       ",
-            Kind::DensityMerger => *b"chi2_density_merger     ",
-            Kind::CheckIsMom => *b"check_is_mom            ",
-            Kind::Containing => *b"get_cell_containing     ",
-            Kind::Overlapped => *b"get_overlapped_cells    ",
-            Kind::AddCounts => *b"add_counts              ",
-            Kind::AddDensities => *b"add_densities           ",
-            Kind::Pool => *b"pool                    ",
-            Kind::Product => *b"product                 ",
-            Kind::ReadCountRows => *b"read_count_rows         ",
-            Kind::ReadDensityRows => *b"read_density_rows       ",
-            Kind::WriteCountRows => *b"write_count_rows        ",
-            Kind::WriteDensityRows => *b"write_density_rows      ",
-            Kind::DensityOfCount => *b"density_of_count        ",
-            Kind::DensityOfPattern => *b"density_of_pattern      ",
-            Kind::PatternOfDensity => *b"pattern_of_density      ",
+            Kind::NHash => *b"n_hash                      ",
+            Kind::ToZuniq => *b"to_zuniq                    ",
+            Kind::FromZuniq => *b"from_zuniq                  ",
+            Kind::AreOverlapping => *b"are_overlapping             ",
+            Kind::CountMerger => *b"chi2_count_merger           ",
+            Kind::DensityMerger => *b"chi2_density_merger         ",
+            Kind::CheckIsMom => *b"check_is_mom                ",
+            Kind::Containing => *b"get_cell_containing         ",
+            Kind::Overlapped => *b"get_overlapped_cells        ",
+            Kind::AddCounts => *b"add_counts                  ",
+            Kind::AddDensities => *b"add_densities               ",
+            Kind::Pool => *b"pool                        ",
+            Kind::Product => *b"product                     ",
+            Kind::ReadCountRows => *b"read_count_rows             ",
+            Kind::ReadDensityRows => *b"read_density_rows           ",
+            Kind::WriteCountRows => *b"write_count_rows            ",
+            Kind::WriteDensityRows => *b"write_density_rows          ",
+            Kind::DensityOfCount => *b"density_of_count            ",
+            Kind::DensityOfPattern => *b"density_of_pattern          ",
+            Kind::PatternOfDensity => *b"pattern_of_density          ",
+            Kind::NarrowToZuniq => *b"narrow_to_zuniq             ",
+            Kind::NarrowFromZuniq => *b"narrow_from_zuniq           ",
+            Kind::NarrowAreOverlapping => *b"narrow_are_overlapping      ",
+            Kind::NarrowCheckIsMom => *b"narrow_check_is_mom         ",
+            Kind::NarrowContaining => *b"narrow_get_cell_containing  ",
+            Kind::NarrowOverlapped => *b"narrow_get_overlapped_cells ",
+            Kind::NarrowAddCounts => *b"narrow_add_counts           ",
+            Kind::ReadNarrowRows => *b"read_narrow_rows            ",
+            Kind::WriteNarrowRows => *b"write_narrow_rows           ",
+            Kind::Narrow => *b"narrow                      ",
+            Kind::Widen => *b"widen                       ",
         }
     }
 

@@ -33,10 +33,15 @@ mod kind;
 mod line;
 mod maps;
 mod mergers;
+mod narrow_cells;
+mod narrow_maps;
+mod narrow_overlapped;
+mod narrow_rows;
 mod overlapped;
 mod print;
 mod reading;
 mod tally;
+mod widths;
 mod writing;
 
 use answer::Answer;
@@ -49,7 +54,7 @@ use line::read;
 use print::print_answer;
 use tally::Tally;
 
-// The input has some 180,000 bytes.
+// The input has some 230,000 bytes.
 const MAX_INPUT: usize = 262_144;
 
 fn main() {

@@ -21,10 +21,15 @@ pub(crate) fn check_is_mom(numbers: &[u64]) -> Answer {
     }
     let zuniqs = map.items;
     let len = map.len;
-    match mom::check_is_mom(byte_of(depth), &zuniqs[..len]) {
-        MapCheck::Valid => Answer::new(Said::Valid, map.next).with(0),
-        MapCheck::Faulty(place, fault) => faulty(fault, map.next).with(place as u64),
-        MapCheck::Refused(refusal) => Answer::refused(refusal, map.next),
+    checked(mom::check_is_mom(byte_of(depth), &zuniqs[..len]), map.next)
+}
+
+// What the check answered, of either width.
+pub(crate) fn checked(check: MapCheck, arguments: usize) -> Answer {
+    match check {
+        MapCheck::Valid => Answer::new(Said::Valid, arguments).with(0),
+        MapCheck::Faulty(place, fault) => faulty(fault, arguments).with(place as u64),
+        MapCheck::Refused(refusal) => Answer::refused(refusal, arguments),
     }
 }
 
@@ -54,10 +59,18 @@ pub(crate) fn get_cell_containing(numbers: &[u64]) -> Answer {
     let end = at + 1;
     let zuniqs = map.items;
     let len = map.len;
-    match lookup::get_cell_containing(byte_of(depth), &zuniqs[..len], query) {
-        Containing::At(place) => Answer::values(end).with(place as u64),
-        Containing::Nothing => Answer::new(Said::Nothing, end),
-        Containing::Refused(refusal) => Answer::refused(refusal, end),
+    found(
+        lookup::get_cell_containing(byte_of(depth), &zuniqs[..len], query),
+        end,
+    )
+}
+
+// What looking for the entry over a cell answered, of either width.
+pub(crate) fn found(containing: Containing, arguments: usize) -> Answer {
+    match containing {
+        Containing::At(place) => Answer::values(arguments).with(place as u64),
+        Containing::Nothing => Answer::new(Said::Nothing, arguments),
+        Containing::Refused(refusal) => Answer::refused(refusal, arguments),
     }
 }
 

@@ -76,7 +76,7 @@ fn write_density_rows_into(
 }
 
 // What writing rows answered, with the bytes as it left them.
-fn written_rows(written: Rows, bytes: &[u8], arguments: usize) -> Answer {
+pub(crate) fn written_rows(written: Rows, bytes: &[u8], arguments: usize) -> Answer {
     match written {
         Rows::Rows(rows) => Answer::values(arguments)
             .with(rows as u64)
