@@ -135,9 +135,9 @@ mombuild_tests() {
         cargo test --quiet --no-fail-fast -- --nocapture
 }
 
-# Seven tests, each for a seventh of the time.
+# Fourteen tests, each for a fourteenth of the time.
 fuzz() {
-    cd mom && MOM_FUZZ_SECONDS=$(((seconds + 6) / 7)) \
+    cd mom && MOM_FUZZ_SECONDS=$(((seconds + 13) / 14)) \
         cargo test --quiet --release --test fuzz -- --nocapture
 }
 

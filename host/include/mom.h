@@ -1,10 +1,15 @@
 /* The C functions of libmom_c.a: rows and the check and lookup of maps that come as rows, which an
  * ingest process calls; then cells of multi-order maps, their zuniqs, the mergers, the check and
- * lookup of a map's zuniqs, building from counts and from densities, and combining maps.
+ * lookup of a map's zuniqs, building from counts and from densities, and combining maps; then
+ * narrow maps, which dome boxes keep, and moving maps between the two widths.
  *
  * A cell is a depth d, 0 to 29, and a hash h below N(d) = 12 * 4^d (HEALPix, nested). Its zuniq is
  * (2h + 1) * 4^(29 - d), a u64; no other u64 is a valid zuniq. The four cells that it consists of
  * one depth further down are its children.
+ *
+ * A cell of depth 0 to 13 has a narrow zuniq too, (2h + 1) * 4^(13 - d), a u32; no other u32 is a
+ * valid narrow zuniq. The functions on narrow zuniqs are named mom32_ and do what those named mom_
+ * do; depth 13 is their largest.
  *
  * Every function answers one word. Its high byte is the code:
  *
@@ -15,11 +20,13 @@
  *     67 to 70   the map is faulty: the code is the fault, the low 56 bits its place, from 0
  *
  * A map of depth D is given by its zuniqs. It is valid where each is a valid zuniq, none is of a
- * cell deeper than D, they rise strictly and no two of their cells overlap.
+ * cell deeper than D, they rise strictly and no two of their cells overlap. A narrow map is one of
+ * narrow zuniqs.
  *
  * As bytes a map is rows, one for each entry: the zuniq in 8 bytes, then the count in 4 or the
  * density in 8, each little-endian, with nothing between rows. A density is handed over as its
- * 64-bit pattern, so that every pattern comes back, those of NaNs too.
+ * 64-bit pattern, so that every pattern comes back, those of NaNs too. A row of a narrow map is the
+ * zuniq in 4 bytes, then the count in 4.
  *
  * What doesn't fit into the word goes through a pointer. A function says when it writes such a
  * number: by a refusal, and by MOM_NONE, it is left as it was. A slice is its pointer and then its
@@ -74,6 +81,7 @@ extern "C" {
 #define MOM_PRODUCT_NOT_FINITE 10
 #define MOM_NO_SPACE 11
 #define MOM_NOT_A_ZUNIQ 12
+#define MOM_ENTRY_TOO_DEEP 13
 
 /* The code of an answer: MOM_ACCEPTED, a refusal's number, MOM_NONE, MOM_KEPT or a fault. */
 static inline uint8_t mom_code(uint64_t word) { return (uint8_t)(word >> 56); }
@@ -85,6 +93,7 @@ static inline uint64_t mom_value(uint64_t word) { return word & UINT64_C(0x00fff
 /* The bytes of a row, and how many rows a map may have in the check and lookup. */
 #define MOM_COUNT_ROW 12
 #define MOM_DENSITY_ROW 16
+#define MOM_NARROW_ROW 8
 #define MOM_MAX_ROWS 4096
 
 /* ---- The ingest process */
@@ -262,6 +271,109 @@ uint64_t mom_product(uint8_t left_depth, const uint64_t *left_zuniqs, size_t lzl
                      const uint64_t *right_zuniqs, size_t rzl, const double *right_densities,
                      size_t rdl, uint8_t depth_threshold, double chi2_threshold, double k,
                      uint64_t *zuniqs, size_t zl, double *densities, size_t dl);
+
+/* ---- Narrow maps */
+
+/* *zuniq = the narrow zuniq of the cell (depth, hash).
+ * Refuses by 1: the depth is over 13; then by 7: the hash is N(depth) or more. */
+uint64_t mom32_to_zuniq(uint8_t depth, uint32_t hash, uint32_t *zuniq);
+
+/* *depth and *hash = the cell of the narrow zuniq; MOM_NONE where the number isn't a valid one.
+ * Refuses nothing. */
+uint64_t mom32_from_zuniq(uint32_t zuniq, uint8_t *depth, uint32_t *hash);
+
+/* The value is 1 where the two cells are equal or one lies inside the other, else 0.
+ * Refuses by 12: one of the two isn't a valid narrow zuniq; place 0 is the left one, 1 the right
+ * one. */
+uint64_t mom32_are_overlapping(uint32_t zuniq_l, uint32_t zuniq_r);
+
+/* Reads narrow rows into two buffers. The value is the number of rows; places past them stay. Rows
+ * are not checked as maps. By a refusal both buffers are left as they were.
+ * Refuses by 4: zl isn't cl, or bl is no multiple of 8; then by 11: there are more rows than zl. */
+uint64_t mom32_read_count_rows(const uint8_t *bytes, size_t bl, uint32_t *zuniqs, size_t zl,
+                               uint32_t *counts, size_t cl);
+
+/* Writes narrow rows to the front of bytes. The value is the number of rows; bytes past them stay.
+ * By a refusal the bytes are left as they were.
+ * Refuses by 4: zl isn't cl; then by 11: bl is below 8 * zl. */
+uint64_t mom32_write_count_rows(const uint32_t *zuniqs, size_t zl, const uint32_t *counts, size_t cl,
+                                uint8_t *bytes, size_t bl);
+
+/* The three functions below read the rows where they stand, and copy none.
+ *
+ * Whether narrow rows are a valid narrow map of that depth: MOM_ACCEPTED, or the first faulty row and
+ * the first fault there of: not a narrow zuniq, too deep, not above its predecessor, overlapping it.
+ * Refuses by 1: the depth is over 13; then by 4: bl is no multiple of 8; then by 11: there are more
+ * than 4096 rows. */
+uint64_t mom32_check_is_mom(uint8_t depth, const uint8_t *bytes, size_t bl);
+
+/* The value is the row of the map's entry over the cell of the narrow zuniq; MOM_NONE where no entry
+ * is. The map isn't checked: where it isn't valid, the answer may be any entry that is a valid narrow
+ * zuniq and overlaps the cell, or MOM_NONE.
+ * Refuses by 1, 4 and 11 as the check; then by 12: zuniq isn't a valid narrow zuniq of that depth. */
+uint64_t mom32_get_cell_containing(uint8_t depth, const uint8_t *bytes, size_t bl, uint32_t zuniq);
+
+/* The entries of the map that overlap the cell of the narrow zuniq, which stand one after the other:
+ * the value is the row of the first and *number = how many they are; both 0 where there are none. The
+ * map isn't checked: where it isn't valid, they may be any that are valid narrow zuniqs and overlap
+ * it.
+ * Refuses by 4 and 11 as the check; then by 12: zuniq isn't a valid narrow zuniq. */
+uint64_t mom32_get_overlapped_cells(const uint8_t *bytes, size_t bl, uint32_t zuniq, size_t *number);
+
+/* Whether the len narrow zuniqs are a valid narrow map of that depth: MOM_ACCEPTED, or the first
+ * faulty place and the first fault there of: not a narrow zuniq, too deep, not above its predecessor,
+ * overlapping it.
+ * Refuses by 1: the depth is over 13. */
+uint64_t mom32_check_is_mom_zuniqs(uint8_t depth, const uint32_t *zuniqs, size_t len);
+
+/* The value is the place of the map's entry over the cell of the narrow zuniq; MOM_NONE where no
+ * entry is. The map isn't checked: where it isn't valid, the answer may be any entry that is a valid
+ * narrow zuniq and overlaps the cell, or MOM_NONE.
+ * Refuses by 1: the depth is over 13; then by 12: zuniq isn't a valid narrow zuniq of that depth. */
+uint64_t mom32_get_cell_containing_zuniqs(uint8_t depth, const uint32_t *zuniqs, size_t len,
+                                          uint32_t zuniq);
+
+/* The entries of the map that overlap the cell of the narrow zuniq, which stand one after the other:
+ * the value is the place of the first and *number = how many they are; both 0 where there are none.
+ * The map isn't checked: where it isn't valid, they may be any that are valid narrow zuniqs and
+ * overlap it.
+ * Refuses by 12: zuniq isn't a valid narrow zuniq. */
+uint64_t mom32_get_overlapped_cells_zuniqs(const uint32_t *zuniqs, size_t len, uint32_t zuniq,
+                                           size_t *number);
+
+/* Adds cells of that depth, given by hashes and their counts in batch, to the narrow map in the first
+ * held places of zuniqs and counts, as mom_add_counts does, by the same merger. The value is the new
+ * number of entries and *total = the sum of their counts; every place after the entries is 0. By a
+ * refusal both buffers and *total are left as they were.
+ * Refuses by 1: the depth is over 13; then by 2: depth_threshold is over 29 (from 13 on nothing is
+ * merged); then by 3, 4, 5, 7, 8, 10 and 11 as mom_add_counts does, the held entries being a narrow
+ * map. */
+uint64_t mom32_add_counts(uint8_t depth, uint8_t depth_threshold, double chi2_threshold, size_t held,
+                          uint32_t *zuniqs, size_t zl, uint32_t *counts, size_t cl,
+                          const uint32_t *hashes, size_t hl, const uint32_t *batch, size_t bl,
+                          uint32_t *total);
+
+/* ---- Moving between the widths */
+
+/* Moves a count map of that depth into the narrow buffers out_zuniqs and out_counts, which may hold
+ * anything: each entry keeps its cell and its count. The value is the number of entries and
+ * *out_depth = the depth of the narrow map, the smaller of depth and 13; every place after the
+ * entries is 0. By a refusal both buffers and *out_depth are left as they were.
+ * Refuses by 1: the depth is over 29; then by 4: zl isn't cl, or ozl isn't ocl; then by 5: the zuniqs
+ * are no valid map of that depth, the place is the faulty entry; then by 13: an entry is deeper than
+ * 13, the place is the first such entry; then by 11: ozl is below zl. */
+uint64_t mom_narrow(uint8_t depth, const uint64_t *zuniqs, size_t zl, const uint32_t *counts,
+                    size_t cl, uint32_t *out_zuniqs, size_t ozl, uint32_t *out_counts, size_t ocl,
+                    uint8_t *out_depth);
+
+/* Moves a narrow count map of that depth into out_zuniqs and out_counts in the same way. *out_depth =
+ * depth. A map that was narrowed has its entries again.
+ * Refuses by 1: the depth is over 13; then by 4: zl isn't cl, or ozl isn't ocl; then by 5: the zuniqs
+ * are no valid narrow map of that depth, the place is the faulty entry; then by 11: ozl is below
+ * zl. */
+uint64_t mom_widen(uint8_t depth, const uint32_t *zuniqs, size_t zl, const uint32_t *counts,
+                   size_t cl, uint64_t *out_zuniqs, size_t ozl, uint32_t *out_counts, size_t ocl,
+                   uint8_t *out_depth);
 
 #ifdef __cplusplus
 }

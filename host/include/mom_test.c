@@ -263,6 +263,293 @@ static void base_cells(void) {
            zuniqs[12] == 0 && densities[12] == 0, "adding the densities of twelve base cells");
 }
 
+static void narrow_cells(void) {
+    uint32_t zuniq = 5, hash = 5;
+    uint8_t depth = 5;
+
+    expect(answers(mom32_to_zuniq(14, 0, &zuniq), MOM_DEPTH_OUT_OF_RANGE, 0) && zuniq == 5,
+           "narrow to_zuniq(14, 0)");
+    expect(answers(mom32_to_zuniq(1, 48, &zuniq), MOM_HASH_OUT_OF_RANGE, 0) && zuniq == 5,
+           "narrow to_zuniq(1, 48)");
+    expect(answers(mom32_to_zuniq(0, 0, &zuniq), MOM_ACCEPTED, 0) && zuniq == UINT32_C(1) << 26,
+           "narrow to_zuniq(0, 0)");
+    expect(answers(mom32_to_zuniq(13, (UINT32_C(12) << 26) - 1, &zuniq), MOM_ACCEPTED, 0) &&
+           zuniq == UINT32_C(1610612735), "the last narrow zuniq");
+
+    expect(answers(mom32_from_zuniq(0, &depth, &hash), MOM_NONE, 0) &&
+           answers(mom32_from_zuniq(2, &depth, &hash), MOM_NONE, 0) &&
+           answers(mom32_from_zuniq(UINT32_C(1) << 28, &depth, &hash), MOM_NONE, 0) &&
+           answers(mom32_from_zuniq(UINT32_C(1610612737), &depth, &hash), MOM_NONE, 0) &&
+           depth == 5 && hash == 5, "numbers that are no narrow zuniq");
+    expect(answers(mom32_from_zuniq(3, &depth, &hash), MOM_ACCEPTED, 0) && depth == 13 && hash == 1,
+           "narrow from_zuniq(3)");
+
+    expect(answers(mom32_are_overlapping(UINT32_C(1) << 26, 1), MOM_ACCEPTED, 1),
+           "narrow are_overlapping(2^26, 1)");
+    expect(answers(mom32_are_overlapping(1, 3), MOM_ACCEPTED, 0), "narrow are_overlapping(1, 3)");
+    expect(answers(mom32_are_overlapping(0, 0), MOM_NOT_A_ZUNIQ, 0),
+           "narrow are_overlapping(0, 0)");
+    expect(answers(mom32_are_overlapping(1, 0), MOM_NOT_A_ZUNIQ, 1),
+           "narrow are_overlapping(1, 0)");
+}
+
+/* Two rows, then a byte more: the zuniqs 1 and 3 with the counts 258 and 4. */
+static const uint8_t narrow_count_rows[17] = {1, 0, 0, 0, 2, 1, 0, 0, 3, 0, 0, 0, 4, 0, 0, 0, 9};
+
+static void narrow_rows(void) {
+    uint32_t zuniqs[3] = {5, 5, 5}, counts[3] = {5, 5, 5};
+    uint8_t bytes[20];
+
+    expect(answers(mom32_read_count_rows(narrow_count_rows, 17, zuniqs, 3, counts, 3),
+                   MOM_LENGTHS_DIFFER, 0),
+           "reading a byte more than two narrow rows");
+    expect(answers(mom32_read_count_rows(narrow_count_rows, 16, zuniqs, 3, counts, 2),
+                   MOM_LENGTHS_DIFFER, 0),
+           "reading narrow rows into two lengths");
+    expect(answers(mom32_read_count_rows(narrow_count_rows, 16, zuniqs, 1, counts, 1),
+                   MOM_NO_SPACE, 0) && zuniqs[0] == 5 && counts[0] == 5,
+           "reading narrow rows into too few places");
+    expect(answers(mom32_read_count_rows(narrow_count_rows, 16, zuniqs, 3, counts, 3),
+                   MOM_ACCEPTED, 2) && zuniqs[0] == 1 && zuniqs[1] == 3 && zuniqs[2] == 5 &&
+           counts[0] == 258 && counts[1] == 4 && counts[2] == 5,
+           "reading two narrow rows into three places");
+
+    memset(bytes, 7, sizeof bytes);
+    expect(answers(mom32_write_count_rows(zuniqs, 2, counts, 3, bytes, 20), MOM_LENGTHS_DIFFER, 0),
+           "writing narrow rows from two lengths");
+    expect(answers(mom32_write_count_rows(zuniqs, 2, counts, 2, bytes, 15), MOM_NO_SPACE, 0) &&
+           bytes[0] == 7, "writing narrow rows to too few bytes");
+    expect(answers(mom32_write_count_rows(zuniqs, 2, counts, 2, bytes, 20), MOM_ACCEPTED, 2) &&
+           memcmp(bytes, narrow_count_rows, 16) == 0 && bytes[16] == 7, "writing two narrow rows");
+}
+
+static void narrow_maps_of_rows(void) {
+    static uint8_t many[MOM_NARROW_ROW * (MOM_MAX_ROWS + 1)];
+    const size_t most = MOM_NARROW_ROW * MOM_MAX_ROWS;
+    const uint32_t base = UINT32_C(1) << 26, last = 2 * MOM_MAX_ROWS - 1;
+    size_t number = 5, row;
+
+    for (row = 0; row <= MOM_MAX_ROWS; row++) {
+        many[8 * row] = (uint8_t)(2 * row + 1);
+        many[8 * row + 1] = (uint8_t)((2 * row + 1) >> 8);
+    }
+    expect(answers(mom32_check_is_mom(14, narrow_count_rows, 17), MOM_DEPTH_OUT_OF_RANGE, 0) &&
+           answers(mom32_check_is_mom(13, narrow_count_rows, 17), MOM_LENGTHS_DIFFER, 0) &&
+           answers(mom32_check_is_mom(13, many, sizeof many), MOM_NO_SPACE, 0),
+           "refused checks of narrow rows");
+    expect(answers(mom32_check_is_mom(13, many, most), MOM_ACCEPTED, 0) &&
+           answers(mom32_check_is_mom(13, many, 0), MOM_ACCEPTED, 0) &&
+           answers(mom32_check_is_mom(12, many, 16), MOM_FAULT_TOO_DEEP, 0),
+           "checks of 4096, no and two narrow rows");
+
+    expect(answers(mom32_get_cell_containing(14, narrow_count_rows, 17, 0),
+                   MOM_DEPTH_OUT_OF_RANGE, 0) &&
+           answers(mom32_get_cell_containing(13, narrow_count_rows, 17, 0),
+                   MOM_LENGTHS_DIFFER, 0) &&
+           answers(mom32_get_cell_containing(13, many, sizeof many, 0), MOM_NO_SPACE, 0) &&
+           answers(mom32_get_cell_containing(13, narrow_count_rows, 16, base), MOM_NOT_A_ZUNIQ, 0),
+           "refused containing in narrow rows");
+    expect(answers(mom32_get_cell_containing(13, many, most, last), MOM_ACCEPTED, 4095) &&
+           answers(mom32_get_cell_containing(13, many, most, last + 2), MOM_NONE, 0),
+           "containing in 4096 narrow rows");
+
+    expect(answers(mom32_get_overlapped_cells(narrow_count_rows, 17, 0, &number),
+                   MOM_LENGTHS_DIFFER, 0) &&
+           answers(mom32_get_overlapped_cells(many, sizeof many, 0, &number), MOM_NO_SPACE, 0) &&
+           answers(mom32_get_overlapped_cells(narrow_count_rows, 16, 0, &number),
+                   MOM_NOT_A_ZUNIQ, 0) && number == 5, "refused overlapped in narrow rows");
+    expect(answers(mom32_get_overlapped_cells(many, most, base, &number), MOM_ACCEPTED, 0) &&
+           number == MOM_MAX_ROWS, "overlapped in 4096 narrow rows");
+    expect(answers(mom32_get_overlapped_cells(narrow_count_rows, 16, 3, &number), MOM_ACCEPTED, 1) &&
+           number == 1, "the entry 3 of two narrow rows");
+}
+
+static void narrow_maps(void) {
+    /* (1,0), (1,1), (0,1) and the cell (1,0) again. */
+    const uint32_t first = UINT32_C(1) << 24, base = UINT32_C(1) << 26;
+    const uint32_t map[4] = {first, 3 * first, 3 * base, first};
+    const uint32_t faulty[2] = {first, base}, none = 2;
+    size_t number = 5;
+
+    expect(answers(mom32_check_is_mom_zuniqs(14, map, 4), MOM_DEPTH_OUT_OF_RANGE, 0),
+           "a narrow check at depth 14");
+    expect(answers(mom32_check_is_mom_zuniqs(13, map, 0), MOM_ACCEPTED, 0) &&
+           answers(mom32_check_is_mom_zuniqs(1, map, 3), MOM_ACCEPTED, 0),
+           "narrow checks of no entries and of three");
+    expect(answers(mom32_check_is_mom_zuniqs(1, &none, 1), MOM_FAULT_NOT_A_ZUNIQ, 0) &&
+           answers(mom32_check_is_mom_zuniqs(0, map, 4), MOM_FAULT_TOO_DEEP, 0) &&
+           answers(mom32_check_is_mom_zuniqs(1, map, 4), MOM_FAULT_NOT_ABOVE, 3) &&
+           answers(mom32_check_is_mom_zuniqs(1, faulty, 2), MOM_FAULT_OVERLAPPING, 1),
+           "the four faults of a narrow map");
+
+    expect(answers(mom32_get_cell_containing_zuniqs(14, map, 3, 0), MOM_DEPTH_OUT_OF_RANGE, 0),
+           "narrow containing at depth 14");
+    expect(answers(mom32_get_cell_containing_zuniqs(1, map, 3, base), MOM_NOT_A_ZUNIQ, 0),
+           "narrow containing, asked another depth");
+    expect(answers(mom32_get_cell_containing_zuniqs(1, map, 3, 11 * first), MOM_ACCEPTED, 2),
+           "the narrow entry over (1, 5)");
+    expect(answers(mom32_get_cell_containing_zuniqs(1, map, 3, 5 * first), MOM_NONE, 0),
+           "the narrow entry over (1, 2)");
+
+    expect(answers(mom32_get_overlapped_cells_zuniqs(map, 3, 2, &number), MOM_NOT_A_ZUNIQ, 0) &&
+           number == 5, "narrow overlapped, asked 2");
+    expect(answers(mom32_get_overlapped_cells_zuniqs(map, 3, base, &number), MOM_ACCEPTED, 0) &&
+           number == 2, "the narrow entries in (0, 0)");
+    expect(answers(mom32_get_overlapped_cells_zuniqs(map, 3, 9 * first, &number),
+                   MOM_ACCEPTED, 2) && number == 1, "the narrow entry over (1, 4)");
+    expect(answers(mom32_get_overlapped_cells_zuniqs(map, 3, 5 * base, &number), MOM_ACCEPTED, 0) &&
+           number == 0, "the narrow entries in (0, 2)");
+}
+
+/* Adding to two buffers of 5s that hold nothing: what is wrong leaves them. */
+static int not_added(uint8_t depth, uint8_t m, double t, size_t held, size_t cl, uint32_t hash,
+                     uint8_t number) {
+    const uint32_t hashes[2] = {hash, 2}, batch[2] = {1, 2};
+    uint32_t zuniqs[2] = {5, 5}, counts[2] = {5, 5}, total = 5;
+    uint64_t word = mom32_add_counts(depth, m, t, held, zuniqs, 2, counts, cl, hashes, 2, batch, 2,
+                                     &total);
+    return answers(word, number, 0) && total == 5 && zuniqs[0] == 5 && zuniqs[1] == 5 &&
+           counts[0] == 5 && counts[1] == 5;
+}
+
+static void narrow_adding(void) {
+    const uint32_t first = UINT32_C(1) << 24, base = UINT32_C(1) << 26;
+    const uint32_t hashes[4] = {0, 1, 2, 3}, batch[4] = {1, 2, 4, 4}, largest[2] = {UINT32_MAX, 1};
+    uint32_t zuniqs[5] = {5, 5, 5, 5, 5}, counts[5] = {5, 5, 5, 5, 5}, total = 5;
+    uint32_t cells[12], ones[12], base_zuniqs[12], base_counts[12];
+    int kept = 1;
+
+    expect(not_added(14, 30, NAN, 3, 1, 48, MOM_DEPTH_OUT_OF_RANGE), "narrow adding at depth 14");
+    expect(not_added(1, 30, NAN, 3, 1, 48, MOM_DEPTH_THRESHOLD_OUT_OF_RANGE),
+           "narrow adding, M = 30");
+    expect(not_added(1, 29, NAN, 3, 1, 48, MOM_CHI2_THRESHOLD_IS_NAN), "narrow adding, T a NaN");
+    expect(not_added(1, 29, 0, 0, 1, 48, MOM_LENGTHS_DIFFER), "narrow adding to two lengths");
+    expect(not_added(1, 29, 0, 3, 2, 48, MOM_LENGTHS_DIFFER), "narrow adding, too many held");
+    expect(not_added(1, 29, 0, 2, 2, 48, MOM_INVALID_MAP), "narrow adding to what is no map");
+    expect(not_added(1, 29, 0, 0, 2, 48, MOM_HASH_OUT_OF_RANGE), "narrow adding of hash 48");
+
+    expect(answers(mom32_add_counts(1, 0, 3.5, 0, zuniqs, 3, counts, 3, hashes, 4, batch, 4, &total),
+                   MOM_NO_SPACE, 0) &&
+           answers(mom32_add_counts(1, 0, 3.5, 0, zuniqs, 5, counts, 5, hashes, 2, largest, 2,
+                                    &total),
+                   MOM_COUNT_OVERFLOW, 1) && total == 5 && zuniqs[0] == 5 && counts[0] == 5,
+           "narrow adding to too few places, and of 2^32");
+    expect(answers(mom32_add_counts(1, 0, 3.5, 0, zuniqs, 5, counts, 5, hashes, 3, batch, 3, &total),
+                   MOM_ACCEPTED, 3) && total == 7 && zuniqs[2] == 5 * first && counts[2] == 4 &&
+           zuniqs[3] == 0 && counts[4] == 0, "narrow adding of three");
+    expect(answers(mom32_add_counts(1, 0, 3.5, 3, zuniqs, 5, counts, 5, hashes + 2, 2, batch + 2, 2,
+                                    &total),
+                   MOM_CELL_NOT_ABOVE, 0) && total == 7, "narrow adding of one again");
+    expect(answers(mom32_add_counts(1, 13, INFINITY, 3, zuniqs, 5, counts, 5, hashes + 3, 1,
+                                    batch + 3, 1, &total),
+                   MOM_ACCEPTED, 4) && total == 11 && zuniqs[3] == 7 * first && zuniqs[4] == 0,
+           "narrow adding of the fourth, M = 13");
+    zuniqs[3] = 0;
+    expect(answers(mom32_add_counts(1, 0, 3.5, 3, zuniqs, 4, counts, 4, hashes + 3, 1, batch + 3, 1,
+                                    &total),
+                   MOM_ACCEPTED, 1) && total == 11 && zuniqs[0] == base && counts[0] == 11 &&
+           zuniqs[1] == 0 && counts[3] == 0, "narrow adding of the fourth");
+
+    for (uint32_t i = 0; i < 12; i++) {
+        cells[i] = i;
+        ones[i] = 1;
+    }
+    expect(answers(mom32_add_counts(0, 0, INFINITY, 0, base_zuniqs, 12, base_counts, 12, cells, 12,
+                                    ones, 12, &total),
+                   MOM_ACCEPTED, 12) && total == 12, "narrow adding of twelve base cells");
+    for (uint32_t i = 0; i < 12; i++) {
+        kept = kept && base_zuniqs[i] == (2 * i + 1) << 26 && base_counts[i] == 1;
+    }
+    expect(kept, "twelve narrow base cells that stay");
+}
+
+/* Narrowing (0,0) of 10 and, in base cell 1, the first cell of a depth, of UINT32_MAX; into two
+ * buffers of so many places, which hold 5s before. */
+struct narrowed {
+    uint64_t word;
+    uint32_t zuniqs[3], counts[3];
+    uint8_t depth;
+};
+
+static struct narrowed narrow(uint8_t depth, uint8_t deep, size_t cl, size_t ozl, size_t ocl) {
+    const uint64_t scale = UINT64_C(1) << 2 * (29 - deep);
+    const uint64_t zuniqs[2] = {UINT64_C(1) << 58, (UINT64_C(2) << 58) + scale};
+    const uint32_t counts[2] = {10, UINT32_MAX};
+    struct narrowed n = {0, {5, 5, 5}, {5, 5, 5}, 5};
+    n.word = mom_narrow(depth, zuniqs, 2, counts, cl, n.zuniqs, ozl, n.counts, ocl, &n.depth);
+    return n;
+}
+
+static int not_narrowed(struct narrowed n, uint8_t number, uint64_t place) {
+    int all = answers(n.word, number, place) && n.depth == 5;
+    for (int i = 0; i < 3; i++) {
+        all = all && n.zuniqs[i] == 5 && n.counts[i] == 5;
+    }
+    return all;
+}
+
+static void narrowing(void) {
+    const uint32_t base = UINT32_C(1) << 26;
+    const uint64_t wide = UINT64_C(1) << 58, twice[2] = {1, 1};
+    const uint32_t counts[2] = {1, 1};
+    struct narrowed n;
+
+    expect(not_narrowed(narrow(30, 14, 1, 1, 0), MOM_DEPTH_OUT_OF_RANGE, 0),
+           "narrowing at depth 30");
+    expect(not_narrowed(narrow(13, 14, 1, 1, 1), MOM_LENGTHS_DIFFER, 0),
+           "narrowing of two lengths");
+    expect(not_narrowed(narrow(13, 14, 2, 1, 0), MOM_LENGTHS_DIFFER, 0),
+           "narrowing into two lengths");
+    expect(not_narrowed(narrow(13, 14, 2, 1, 1), MOM_INVALID_MAP, 1),
+           "narrowing of an entry deeper than the map");
+    expect(not_narrowed(narrow(29, 14, 2, 1, 1), MOM_ENTRY_TOO_DEEP, 1),
+           "narrowing of an entry of depth 14");
+    expect(not_narrowed(narrow(29, 13, 2, 1, 1), MOM_NO_SPACE, 0), "narrowing into one place");
+
+    n = narrow(29, 13, 2, 3, 3);
+    expect(answers(n.word, MOM_ACCEPTED, 2) && n.depth == 13 && n.zuniqs[0] == base &&
+           n.zuniqs[1] == 2 * base + 1 && n.zuniqs[2] == 0 && n.counts[0] == 10 &&
+           n.counts[1] == UINT32_MAX && n.counts[2] == 0, "narrowing from depth 29");
+    n = narrow(5, 0, 2, 2, 2);
+    expect(answers(n.word, MOM_ACCEPTED, 2) && n.depth == 5 && n.zuniqs[1] == 3 * base &&
+           n.zuniqs[2] == 5 && n.counts[2] == 5, "narrowing from depth 5");
+
+    expect(answers(mom_narrow(29, twice, 2, counts, 2, n.zuniqs, 3, n.counts, 3, &n.depth),
+                   MOM_INVALID_MAP, 1) && n.depth == 5 && n.zuniqs[0] == base,
+           "narrowing of a deep entry and one that isn't above it");
+    expect(answers(mom_narrow(29, &wide, 0, counts, 0, n.zuniqs, 3, n.counts, 3, &n.depth),
+                   MOM_ACCEPTED, 0) && n.depth == 13 && n.zuniqs[0] == 0 && n.counts[2] == 0,
+           "narrowing of no entries");
+}
+
+static void widening(void) {
+    const uint32_t map[2] = {UINT32_C(1) << 26, (UINT32_C(2) << 26) + 1}, counts[2] = {10, 3};
+    const uint32_t twice[2] = {1, 1};
+    uint64_t zuniqs[3] = {5, 5, 5};
+    uint32_t out[3] = {5, 5, 5};
+    uint8_t depth = 5;
+
+    expect(answers(mom_widen(14, twice, 2, counts, 1, zuniqs, 1, out, 0, &depth),
+                   MOM_DEPTH_OUT_OF_RANGE, 0), "widening at depth 14");
+    expect(answers(mom_widen(13, twice, 2, counts, 1, zuniqs, 1, out, 1, &depth),
+                   MOM_LENGTHS_DIFFER, 0), "widening of two lengths");
+    expect(answers(mom_widen(13, twice, 2, counts, 2, zuniqs, 1, out, 0, &depth),
+                   MOM_LENGTHS_DIFFER, 0), "widening into two lengths");
+    expect(answers(mom_widen(13, twice, 2, counts, 2, zuniqs, 1, out, 1, &depth),
+                   MOM_INVALID_MAP, 1), "widening of what is no map");
+    expect(answers(mom_widen(12, map, 2, counts, 2, zuniqs, 1, out, 1, &depth),
+                   MOM_INVALID_MAP, 1), "widening of an entry deeper than the map");
+    expect(answers(mom_widen(13, map, 2, counts, 2, zuniqs, 1, out, 1, &depth), MOM_NO_SPACE, 0) &&
+           depth == 5 && zuniqs[0] == 5 && zuniqs[2] == 5 && out[0] == 5 && out[2] == 5,
+           "widening into one place, and what refusals leave");
+    expect(answers(mom_widen(13, map, 2, counts, 2, zuniqs, 3, out, 3, &depth), MOM_ACCEPTED, 2) &&
+           depth == 13 && zuniqs[0] == UINT64_C(1) << 58 &&
+           zuniqs[1] == (UINT64_C(2) << 58) + (UINT64_C(1) << 32) && zuniqs[2] == 0 &&
+           out[0] == 10 && out[1] == 3 && out[2] == 0, "widening from depth 13");
+    expect(answers(mom_widen(0, map, 1, counts, 1, zuniqs, 1, out, 1, &depth), MOM_ACCEPTED, 1) &&
+           depth == 0 && zuniqs[0] == UINT64_C(1) << 58, "widening from depth 0");
+}
+
 int main(void) {
     uint64_t n_hash = 5, zuniq = 5, hash = 5;
     uint8_t depth = 5;
@@ -410,6 +697,13 @@ int main(void) {
     maps_of_rows();
     pooling();
     multiplying();
+    narrow_cells();
+    narrow_rows();
+    narrow_maps_of_rows();
+    narrow_maps();
+    narrow_adding();
+    narrowing();
+    widening();
 
     printf("%d passed, %d failed\n", passed, failed);
     return failed > 0;

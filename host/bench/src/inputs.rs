@@ -1,6 +1,6 @@
 //! What is worked on. A seed fixes every input, so that all runs time the same work.
 
-use differential::random::Random;
+use differential::{random::Random, widths::Width};
 use oracle::run;
 
 /// Poisson of that mean: how many uniform factors it takes to fall below e^−mean (Knuth).
@@ -16,28 +16,28 @@ pub fn poisson(random: &mut Random, mean: f64) -> u32 {
 }
 
 /// Cells of one depth, rising, with a value each.
-pub struct Cells<V> {
+pub struct Cells<V, Z = u64> {
     pub depth: u8,
-    pub hashes: Vec<u64>,
+    pub hashes: Vec<Z>,
     pub values: Vec<V>,
 }
 
-impl<V: Copy> Cells<V> {
+impl<V: Copy, Z: Width> Cells<V, Z> {
     pub fn len(&self) -> usize {
         self.hashes.len()
     }
 
-    pub fn pairs(&self) -> impl Iterator<Item = (u64, V)> + '_ {
+    pub fn pairs(&self) -> impl Iterator<Item = (Z, V)> + '_ {
         self.hashes.iter().copied().zip(self.values.iter().copied())
     }
 }
 
 /// The first cells of a depth with Poisson counts of mean 8.
-pub fn first_cells(depth: u8, number: usize) -> Cells<u32> {
+pub fn first_cells<Z: Width>(depth: u8, number: usize) -> Cells<u32, Z> {
     let mut random = Random::new(9);
     Cells {
         depth,
-        hashes: (0..number as u64).collect(),
+        hashes: (0..number as u64).map(Z::of).collect(),
         values: (0..number).map(|_| poisson(&mut random, 8.0)).collect(),
     }
 }
@@ -68,14 +68,14 @@ pub fn densities(cells: &Cells<u32>) -> Cells<f64> {
 
 /// A valid map as the library has it, in two buffers.
 #[derive(Clone)]
-pub struct Map<V> {
+pub struct Map<V, Z = u64> {
     pub depth: u8,
-    pub zuniqs: Vec<u64>,
+    pub zuniqs: Vec<Z>,
     pub values: Vec<V>,
 }
 
-impl<V: Copy> Map<V> {
-    pub fn of(depth: u8, entries: &[(u64, V)]) -> Self {
+impl<V: Copy, Z: Width> Map<V, Z> {
+    pub fn of(depth: u8, entries: &[(Z, V)]) -> Self {
         let (zuniqs, values) = entries.iter().copied().unzip();
         Map {
             depth,
@@ -88,6 +88,14 @@ impl<V: Copy> Map<V> {
         self.zuniqs.len()
     }
 
+    /// The same map as the original has it, in one vector.
+    pub fn entries(&self) -> Vec<(Z, V)> {
+        let zuniqs = self.zuniqs.iter().copied();
+        zuniqs.zip(self.values.iter().copied()).collect()
+    }
+}
+
+impl<V> Map<V> {
     pub fn lent(&self) -> mom::Map<'_, V> {
         mom::Map {
             depth: self.depth,
@@ -95,17 +103,11 @@ impl<V: Copy> Map<V> {
             values: &self.values,
         }
     }
-
-    /// The same map as the original has it, in one vector.
-    pub fn entries(&self) -> Vec<(u64, V)> {
-        let zuniqs = self.zuniqs.iter().copied();
-        zuniqs.zip(self.values.iter().copied()).collect()
-    }
 }
 
 /// A map of about `number` entries: of the cells of a depth, in runs that are there or not, those
 /// whose siblings are all there and alike by chi-square are merged.
-pub fn count_map(depth: u8, number: usize, seed: u64) -> Map<u32> {
+pub fn count_map<Z: Width>(depth: u8, number: usize, seed: u64) -> Map<u32, Z> {
     let mut random = Random::new(seed);
     let mut hashes: Vec<u64> = Vec::with_capacity(2 * number);
     let mut hash = 0;
@@ -114,9 +116,9 @@ pub fn count_map(depth: u8, number: usize, seed: u64) -> Map<u32> {
         hashes.extend(hash..(hash + run).min(run::n_hash(depth)));
         hash += run + random.below(60);
     }
-    let cells: Vec<(u64, u32)> = hashes
+    let cells: Vec<(Z, u32)> = hashes
         .iter()
-        .map(|&h| (h, poisson(&mut random, 8.0)))
+        .map(|&h| (Z::of(h), poisson(&mut random, 8.0)))
         .collect();
     let mut entries = run::build_counts(depth, 0, 5.0, cells.into_iter());
     entries.truncate(number);

@@ -1,9 +1,10 @@
 //! Cells to compare on: all small ones, and random ones of every depth that gather where a fault
 //! would show. They are made by the scope's definitions alone, by neither of the two sides.
 
-use crate::random::Random;
+use crate::{random::Random, widths::Width};
 
-pub const DEPTH_MAX: u8 = 29;
+/// Of wide cells.
+pub const DEPTH_MAX: u8 = u64::DEPTH_MAX;
 
 /// Ordered by depth, then by hash.
 #[derive(Clone, Copy, Debug, PartialEq, Eq, PartialOrd, Ord)]
@@ -23,18 +24,19 @@ pub fn cells_to(depth: u8) -> impl Iterator<Item = Cell> + Clone {
 }
 
 impl Cell {
-    /// zuniq(d, h) = (2h + 1) × 4^(29−d).
-    pub fn zuniq(self) -> u64 {
-        (2 * self.hash + 1) << (2 * (DEPTH_MAX - self.depth))
+    /// zuniq(d, h) = (2h + 1) × 4^(29−d), and of a narrow cell (2h + 1) × 4^(13−d).
+    pub fn zuniq<Z: Width>(self) -> Z {
+        Z::of((2 * self.hash + 1) << (2 * (Z::DEPTH_MAX - self.depth)))
     }
 
     /// The cell whose zuniq this is.
-    pub fn of_zuniq(zuniq: u64) -> Option<Cell> {
+    pub fn of_zuniq<Z: Width>(zuniq: Z) -> Option<Cell> {
+        let zuniq = zuniq.bits();
         let zeros = zuniq.trailing_zeros() as u8;
-        if zeros > 2 * DEPTH_MAX || zeros % 2 == 1 {
+        if zeros > 2 * Z::DEPTH_MAX || zeros % 2 == 1 {
             return None;
         }
-        let depth = DEPTH_MAX - zeros / 2;
+        let depth = Z::DEPTH_MAX - zeros / 2;
         let hash = zuniq >> (zeros + 1);
         (hash < n_hash(depth)).then_some(Cell { depth, hash })
     }
@@ -59,6 +61,11 @@ impl Cell {
     /// This cell, or what it lies in at `depth` where it is deeper.
     pub fn to_depth_at_most(self, depth: u8) -> Cell {
         self.ancestor(depth.min(self.depth))
+    }
+
+    /// By zuniq.
+    pub fn is_before(self, other: Cell) -> bool {
+        self.zuniq::<u64>() < other.zuniq()
     }
 
     /// Whether one of the two lies in the other.
@@ -86,8 +93,8 @@ impl Cell {
 
     /// A cell of any depth: anywhere, near one of the two ends, with few bits set, or with a zuniq
     /// one bit away from that of such a cell.
-    pub fn random(random: &mut Random) -> Cell {
-        let depth = random.below(30) as u8;
+    pub fn random<Z: Width>(random: &mut Random) -> Cell {
+        let depth = random.below(Z::DEPTH_MAX as u64 + 1) as u8;
         let n = n_hash(depth);
         let hash = match random.below(4) {
             0 => random.below(n),
@@ -99,15 +106,16 @@ impl Cell {
         if random.below(4) > 0 {
             return cell;
         }
-        let changed = cell.zuniq() ^ 1 << random.below(64);
+        let bits = 8 * size_of::<Z>() as u64;
+        let changed = cell.zuniq::<Z>() ^ Z::of(1 << random.below(bits));
         Cell::of_zuniq(changed).unwrap_or(cell)
     }
 
     /// A cell near this one: itself, an ancestor, a descendant, a sibling, or the neighbour and
     /// what lies over or under it; now and then any cell.
-    pub fn relative(self, random: &mut Random) -> Cell {
+    pub fn relative<Z: Width>(self, random: &mut Random) -> Cell {
         let up = random.below(self.depth as u64 + 1) as u8;
-        let down = self.depth + random.below((DEPTH_MAX - self.depth + 1) as u64) as u8;
+        let down = self.depth + random.below((Z::DEPTH_MAX - self.depth + 1) as u64) as u8;
         match random.below(10) {
             0 => self,
             1 => self.ancestor(up),
@@ -118,7 +126,7 @@ impl Cell {
             6 => self.neighbour(),
             7 => self.neighbour().ancestor(up),
             8 => self.neighbour().descendant(down, random.bits()),
-            _ => Cell::random(random),
+            _ => Cell::random::<Z>(random),
         }
     }
 }

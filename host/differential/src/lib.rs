@@ -1,7 +1,7 @@
 //! Compares the proved functions of libmom_c.a with the original Rust, in one process.
 //!
 //! A kind of comparison is a file in `kinds/` that implements [`compare::Kind`], or a value of
-//! [`lists`] or [`pairs`], and a line of [`kinds::KINDS`].
+//! [`lists`] or [`pairs`], and a line of [`kinds::KINDS`] for each of the [`widths`] that it has.
 
 pub mod cells;
 pub mod compare;
@@ -12,3 +12,4 @@ pub mod maps;
 pub mod pairs;
 pub mod quads;
 pub mod random;
+pub mod widths;

@@ -6,6 +6,7 @@ use std::cmp::Ordering;
 use crate::{
     cells::{cells_to, n_hash, Cell},
     random::Random,
+    widths::Width,
 };
 
 /// Cells that rise by zuniq, of which no two overlap. The smaller map is the one with fewer entries.
@@ -33,7 +34,7 @@ impl Map {
     pub fn small() -> impl Iterator<Item = Map> {
         let pairs = cells_to(1).flat_map(|first| {
             let seconds = cells_to(1)
-                .filter(move |&second| first.zuniq() < second.zuniq() && !first.overlaps(second));
+                .filter(move |&second| first.is_before(second) && !first.overlaps(second));
             seconds.map(move |second| vec![first, second])
         });
         let split = [0, 11].into_iter().flat_map(|hash| {
@@ -55,8 +56,8 @@ impl Map {
     }
 
     /// No entry is deeper than `depth`.
-    pub fn random(depth: u8, random: &mut Random) -> Map {
-        let mut cells = roots(depth, random);
+    pub fn random<Z: Width>(depth: u8, random: &mut Random) -> Map {
+        let mut cells = roots::<Z>(depth, random);
         for _ in 0..random.below(STEPS) {
             let Some(last) = cells.len().checked_sub(1) else {
                 break;
@@ -78,7 +79,7 @@ impl Map {
                 _ => cells.extend(cell.children()),
             }
         }
-        cells.sort_by_key(|cell| cell.zuniq());
+        cells.sort_by_key(|cell| cell.zuniq::<Z>());
         Map(cells)
     }
 
@@ -86,21 +87,21 @@ impl Map {
         &self.0
     }
 
-    pub fn zuniqs(&self) -> Vec<u64> {
+    pub fn zuniqs<Z: Width>(&self) -> Vec<Z> {
         self.0.iter().map(|cell| cell.zuniq()).collect()
     }
 
     /// As the original takes it, each entry's value being its place.
-    pub fn entries(&self) -> Vec<(u64, u32)> {
+    pub fn entries<Z: Width>(&self) -> Vec<(Z, u32)> {
         let zuniqs = self.0.iter().map(|cell| cell.zuniq());
         zuniqs.zip(0..).collect()
     }
 
     /// A cell near an entry, or any.
-    pub fn query(&self, random: &mut Random) -> Cell {
+    pub fn query<Z: Width>(&self, random: &mut Random) -> Cell {
         match self.0.len() {
-            0 => Cell::random(random),
-            len => self.0[random.below(len as u64) as usize].relative(random),
+            0 => Cell::random::<Z>(random),
+            len => self.0[random.below(len as u64) as usize].relative::<Z>(random),
         }
     }
 }
@@ -122,7 +123,7 @@ fn split_in(base: Cell, ways: u64) -> Vec<Cell> {
 
 /// What a random map is made from: none, some base cells, or one cell of any depth with what can
 /// stand beside it.
-fn roots(depth: u8, random: &mut Random) -> Vec<Cell> {
+fn roots<Z: Width>(depth: u8, random: &mut Random) -> Vec<Cell> {
     let base = |hash| Cell { depth: 0, hash };
     match random.below(8) {
         0 => vec![base(random.below(12))],
@@ -131,7 +132,7 @@ fn roots(depth: u8, random: &mut Random) -> Vec<Cell> {
             (0..12).filter(|h| chosen >> h & 1 == 1).map(base).collect()
         }
         _ => {
-            let cell = Cell::random(random).to_depth_at_most(depth);
+            let cell = Cell::random::<Z>(random).to_depth_at_most(depth);
             let neighbour = cell.neighbour();
             vec![cell, neighbour]
         }
@@ -149,4 +150,21 @@ pub fn at_depth(cell: Cell, depth: u8, random: &mut Random) -> Cell {
         _ => random.bits(),
     };
     cell.descendant(depth, path)
+}
+
+/// Row 5: the first entry that isn't valid and above all of the one before it.
+pub fn faulty_entry<Z: Width>(depth: u8, zuniqs: &[Z]) -> Option<usize> {
+    (0..zuniqs.len()).find(|&place| !is_sound(depth, &zuniqs[..place], zuniqs[place]))
+}
+
+fn is_sound<Z: Width>(depth: u8, before: &[Z], zuniq: Z) -> bool {
+    let Some(cell) = Cell::of_zuniq(zuniq) else {
+        return false;
+    };
+    let before = before.last().copied();
+    cell.depth <= depth
+        && before.is_none_or(|before| {
+            let overlaps = Cell::of_zuniq(before).is_some_and(|before| before.overlaps(cell));
+            before < zuniq && !overlaps
+        })
 }

@@ -6,18 +6,20 @@ use differential::{
     cells::{cells_to, n_hash, Cell, DEPTH_MAX},
     compare::Kind,
     floats::Float,
-    lists::{Add, Input, Value},
+    kinds::MoveInput,
+    lists::{Add, Build, Input, Value},
     maps::Map,
     quads::{unit_density, Call, Quad, PARENT_DEPTH_MAX},
     random::Random,
+    widths::Width,
 };
 use mom::Refusal;
 
 const DRAWN: u64 = 200_000;
 
-fn drawn() -> impl Iterator<Item = Cell> {
+fn drawn<Z: Width>() -> impl Iterator<Item = Cell> {
     let mut random = Random::new(1);
-    (0..DRAWN).map(move |_| Cell::random(&mut random))
+    (0..DRAWN).map(move |_| Cell::random::<Z>(&mut random))
 }
 
 fn lies_in(inner: Cell, outer: Cell) -> bool {
@@ -26,46 +28,73 @@ fn lies_in(inner: Cell, outer: Cell) -> bool {
 
 #[test]
 fn no_cell_is_out_of_range() {
-    let mut random = Random::new(2);
-    for cell in drawn() {
-        for cell in [cell, cell.neighbour(), cell.relative(&mut random)] {
-            assert!(
-                cell.depth <= DEPTH_MAX && cell.hash < n_hash(cell.depth),
-                "{cell:?}"
-            );
-            assert_eq!(Cell::of_zuniq(cell.zuniq()), Some(cell));
+    fn at<Z: Width>() {
+        let mut random = Random::new(2);
+        for cell in drawn::<Z>() {
+            for cell in [cell, cell.neighbour(), cell.relative::<Z>(&mut random)] {
+                assert!(
+                    cell.depth <= Z::DEPTH_MAX && cell.hash < n_hash(cell.depth),
+                    "{cell:?}"
+                );
+                assert_eq!(Cell::of_zuniq(cell.zuniq::<Z>()), Some(cell));
+            }
         }
+    }
+    at::<u64>();
+    at::<u32>();
+}
+
+#[test]
+fn no_zuniq_is_of_the_other_width() {
+    for (cell, wide, narrow) in [
+        (Cell { depth: 0, hash: 0 }, 1 << 58, 1 << 26),
+        (Cell { depth: 0, hash: 11 }, 23 << 58, 23 << 26),
+        (Cell { depth: 13, hash: 1 }, 3 << 32, 3),
+    ] {
+        assert_eq!(cell.zuniq::<u64>(), wide);
+        assert_eq!(cell.zuniq::<u32>(), narrow);
+    }
+    for none in [0, 2, 1 << 27, 1 << 28, 25 << 26, 1610612737, u32::MAX] {
+        assert_eq!(Cell::of_zuniq(none), None, "{none}");
     }
 }
 
 #[test]
 fn no_depth_and_no_end_of_a_depth_is_missed() {
-    let drawn: HashSet<_> = drawn().map(|cell| (cell.depth, cell.hash)).collect();
-    for depth in 0..=DEPTH_MAX {
-        for hash in [0, 1, n_hash(depth) - 2, n_hash(depth) - 1] {
-            assert!(drawn.contains(&(depth, hash)), "({depth}, {hash})");
+    fn at<Z: Width>(least_different: u64) {
+        let drawn: HashSet<_> = drawn::<Z>().map(|cell| (cell.depth, cell.hash)).collect();
+        for depth in 0..=Z::DEPTH_MAX {
+            for hash in [0, 1, n_hash(depth) - 2, n_hash(depth) - 1] {
+                assert!(drawn.contains(&(depth, hash)), "({depth}, {hash})");
+            }
         }
+        assert!(drawn.len() as u64 > least_different, "{}", drawn.len());
     }
-    assert!(drawn.len() as u64 > DRAWN / 3);
+    at::<u64>(DRAWN / 3);
+    at::<u32>(DRAWN / 4);
 }
 
 #[test]
 fn no_small_cell_is_left_out() {
     assert_eq!(cells_to(2).count(), 12 + 48 + 192);
-    let cells: HashSet<_> = cells_to(4).map(Cell::zuniq).collect();
+    let cells: HashSet<u64> = cells_to(4).map(Cell::zuniq).collect();
     assert_eq!(cells.len(), 12 + 48 + 192 + 768 + 3072);
 }
 
 #[test]
 fn no_answer_of_the_overlap_test_is_rare() {
-    let mut random = Random::new(3);
-    let overlapping = drawn()
-        .filter(|&cell| {
-            let relative = cell.relative(&mut random);
-            lies_in(cell, relative) || lies_in(relative, cell)
-        })
-        .count() as u64;
-    assert!(overlapping > DRAWN / 4 && overlapping < DRAWN * 3 / 4);
+    fn at<Z: Width>() {
+        let mut random = Random::new(3);
+        let overlapping = drawn::<Z>()
+            .filter(|&cell| {
+                let relative = cell.relative::<Z>(&mut random);
+                lies_in(cell, relative) || lies_in(relative, cell)
+            })
+            .count() as u64;
+        assert!(overlapping > DRAWN / 4 && overlapping < DRAWN * 3 / 4);
+    }
+    at::<u64>();
+    at::<u32>();
 }
 
 fn drawn_counts() -> impl Iterator<Item = Call<u32>> {
@@ -216,23 +245,24 @@ fn no_small_quad_is_left_out() {
 }
 
 /// Random maps of every depth, each with a query.
-fn drawn_maps() -> impl Iterator<Item = (u8, Map, Cell)> {
+fn drawn_maps<Z: Width>() -> impl Iterator<Item = (u8, Map, Cell)> {
     let mut random = Random::new(8);
     (0..DRAWN / 4).map(move |_| {
-        let depth = random.below(30) as u8;
-        let map = Map::random(depth, &mut random);
-        let query = map.query(&mut random);
+        let depth = random.below(Z::DEPTH_MAX as u64 + 1) as u8;
+        let map = Map::random::<Z>(depth, &mut random);
+        let query = map.query::<Z>(&mut random);
         (depth, map, query)
     })
 }
 
 #[test]
 fn no_map_is_invalid() {
-    let drawn = drawn_maps().map(|(depth, map, _)| (depth, map));
+    let drawn = drawn_maps::<u64>().chain(drawn_maps::<u32>());
+    let drawn = drawn.map(|(depth, map, _)| (depth, map));
     for (depth, map) in drawn.chain(Map::small().map(|map| (2, map))) {
         let cells = map.cells();
         assert!(cells.iter().all(|cell| cell.depth <= depth), "{map:?}");
-        let rises = |pair: &[Cell]| pair[0].zuniq() < pair[1].zuniq();
+        let rises = |pair: &[Cell]| pair[0].is_before(pair[1]);
         assert!(cells.windows(2).all(rises), "{map:?}");
         let apart = |i: usize| cells[..i].iter().all(|&cell| !cell.overlaps(cells[i]));
         assert!((0..cells.len()).all(apart), "{map:?}");
@@ -250,14 +280,18 @@ fn no_map_and_no_query_is_rare() {
     fn depths(map: &Map) -> HashSet<u8> {
         map.cells().iter().map(|cell| cell.depth).collect()
     }
-    assert_none_is_rare(
-        drawn_maps(),
-        &[
+    fn at<Z: Width>() {
+        assert_none_is_rare(drawn_maps::<Z>(), &classes::<Z>());
+    }
+    fn classes<Z: Width>() -> [Class<(u8, Map, Cell)>; 10] {
+        [
             ("empty", |(_, map, _)| map.cells().is_empty()),
             ("one entry", |(_, map, _)| map.cells().len() == 1),
             ("over 30 entries", |(_, map, _)| map.cells().len() > 30),
             ("four depths", |(_, map, _)| depths(map).len() >= 4),
-            ("depth 29", |(_, map, _)| depths(map).contains(&29)),
+            ("the largest depth", |(_, map, _)| {
+                depths(map).contains(&Z::DEPTH_MAX)
+            }),
             ("none found", |drawn| found(drawn).is_empty()),
             ("entry 0 found", |drawn| found(drawn).contains(&0)),
             ("the last found", |drawn| {
@@ -272,8 +306,10 @@ fn no_map_and_no_query_is_rare() {
                 let found = found(drawn);
                 found.len() > 2 && found[0] > 0 && found[0] + found.len() < drawn.1.cells().len()
             }),
-        ],
-    );
+        ]
+    }
+    at::<u64>();
+    at::<u32>();
 }
 
 /// A step of a list of add calls, as the table and the original's building make it.
@@ -284,11 +320,11 @@ struct Step<V> {
     places: usize,
 }
 
-fn drawn_steps<V: Value>(seed: u64) -> impl Iterator<Item = Step<V>> {
+fn drawn_steps<V: Build<Z>, Z: Width>(seed: u64) -> impl Iterator<Item = Step<V>> {
     let mut random = Random::new(seed);
     (0..DRAWN / 20).flat_map(move |_| {
         let input = Input::random(&mut random);
-        let steps = Add::<V>::original(&input).into_iter();
+        let steps = Add::<V, Z>::original(&input).into_iter();
         steps.map(move |(answer, zuniqs, values)| {
             let places = zuniqs.len();
             let held = answer.map_or(0, |(entries, _)| entries);
@@ -325,7 +361,7 @@ impl<V: Value> Step<V> {
     }
 
     /// What counts and densities have in common.
-    fn classes() -> Vec<Class<Self>> {
+    fn classes<Z: Width>() -> Vec<Class<Self>> {
         vec![
             ("accepted", |step| step.refusal.is_none()),
             ("no entries", |step| {
@@ -345,7 +381,7 @@ impl<V: Value> Step<V> {
                 step.entries.len() == step.places && step.places > 0
             }),
             ("depth 1", |step| step.depth == 1),
-            ("depth 29", |step| step.depth == DEPTH_MAX),
+            ("the largest depth", |step| step.depth == Z::DEPTH_MAX),
             ("1", |step| step.is_refused(1)),
             ("2", |step| step.is_refused(2)),
             ("3", |step| step.is_refused(3)),
@@ -363,18 +399,22 @@ impl<V: Value> Step<V> {
 
 #[test]
 fn no_refusal_and_no_kind_of_building_is_rare_among_counts() {
-    let mut classes = Step::<u32>::classes();
-    classes.extend([
-        ("10", (|step| step.is_refused(10)) as fn(&Step<u32>) -> bool),
-        ("10 past place 0", |step| step.is_refused_past_0(10)),
-        ("a merged 0", |step| step.merged(|count| count == 0)),
-    ]);
-    assert_none_is_rare(drawn_steps(9), &classes);
+    fn at<Z: Width>() {
+        let mut classes = Step::<u32>::classes::<Z>();
+        classes.extend([
+            ("10", (|step| step.is_refused(10)) as fn(&Step<u32>) -> bool),
+            ("10 past place 0", |step| step.is_refused_past_0(10)),
+            ("a merged 0", |step| step.merged(|count| count == 0)),
+        ]);
+        assert_none_is_rare(drawn_steps::<u32, Z>(9), &classes);
+    }
+    at::<u64>();
+    at::<u32>();
 }
 
 #[test]
 fn no_refusal_and_no_kind_of_building_is_rare_among_densities() {
-    let mut classes = Step::<Float>::classes();
+    let mut classes = Step::<Float>::classes::<u64>();
     classes.extend([
         ("6", (|step| step.is_refused(6)) as fn(&Step<Float>) -> bool),
         ("6 past place 0", |step| step.is_refused_past_0(6)),
@@ -393,5 +433,92 @@ fn no_refusal_and_no_kind_of_building_is_rare_among_densities() {
             step.merged(|m| m.0 > c && m.0 < 1000.0 * c)
         }),
     ]);
-    assert_none_is_rare(drawn_steps(10), &classes);
+    assert_none_is_rare(drawn_steps::<Float, u64>(10), &classes);
+}
+
+fn drawn_moves<Z: Width>() -> impl Iterator<Item = MoveInput<Z>> {
+    let mut random = Random::new(14);
+    (0..DRAWN / 4).map(move |_| MoveInput::random(&mut random))
+}
+
+fn is_refused<Z: Width>(input: &MoveInput<Z>, number: u8) -> bool {
+    let refusal = input.refusal();
+    refusal.is_some_and(|refusal| refusal.number() == number)
+}
+
+fn is_refused_past_0<Z: Width>(input: &MoveInput<Z>, number: u8) -> bool {
+    let refusal = input.refusal();
+    refusal.is_some_and(|refusal| refusal.number() == number && refusal.place() > 0)
+}
+
+/// Whether the map is moved, and is as `is` asks.
+fn is_moved<Z: Width>(input: &MoveInput<Z>, is: impl Fn(u8, &[Cell]) -> bool) -> bool {
+    let cells = input.map.zuniqs.iter();
+    let cells: Vec<Cell> = cells.filter_map(|&zuniq| Cell::of_zuniq(zuniq)).collect();
+    input.refusal().is_none() && is(input.map.depth, &cells)
+}
+
+/// What narrowing and widening have in common.
+fn classes_of_moves<Z: Width>() -> Vec<Class<MoveInput<Z>>> {
+    vec![
+        ("moved", |input| is_moved(input, |_, _| true)),
+        ("empty", |input| {
+            is_moved(input, |_, cells| cells.is_empty())
+        }),
+        ("over 20 entries", |input| {
+            is_moved(input, |_, cells| cells.len() > 20)
+        }),
+        ("an entry of depth 13", |input| {
+            is_moved(input, |_, cells| cells.iter().any(|cell| cell.depth == 13))
+        }),
+        ("deeper than its entries", |input| {
+            is_moved(input, |depth, cells| {
+                cells.iter().all(|cell| cell.depth < depth)
+            })
+        }),
+        ("the last cell", |input| {
+            let is_last = |cell: &Cell| cell.hash == n_hash(cell.depth) - 1;
+            is_moved(input, |_, cells| cells.last().is_some_and(is_last))
+        }),
+        ("no place left", |input| {
+            is_moved(input, |_, cells| cells.len() == input.places[0])
+        }),
+        ("places left", |input| {
+            is_moved(input, |_, cells| cells.len() < input.places[0])
+        }),
+        ("1", |input| is_refused(input, 1)),
+        ("4", |input| is_refused(input, 4)),
+        ("5", |input| is_refused(input, 5)),
+        ("5 past place 0", |input| is_refused_past_0(input, 5)),
+        ("11", |input| is_refused(input, 11)),
+        ("5 and 11", |input| {
+            is_refused(input, 5) && input.map.zuniqs.len() > input.places[0]
+        }),
+    ]
+}
+
+#[test]
+fn no_refusal_and_no_kind_of_moving_is_rare() {
+    assert_none_is_rare(drawn_moves::<u32>(), &classes_of_moves());
+    let mut classes = classes_of_moves::<u64>();
+    classes.extend([
+        (
+            "13",
+            (|input| is_refused(input, 13)) as fn(&MoveInput<u64>) -> bool,
+        ),
+        ("13 past place 0", |input| is_refused_past_0(input, 13)),
+        ("13 and 11", |input| {
+            is_refused(input, 13) && input.map.zuniqs.len() > input.places[0]
+        }),
+        ("5 behind a deep entry", |input| {
+            let cells = input.map.zuniqs.iter();
+            let depths = cells.map(|&zuniq| Cell::of_zuniq(zuniq).map_or(0, |cell| cell.depth));
+            let before = input.refusal().map_or(0, Refusal::place);
+            is_refused(input, 5) && depths.take(before).any(|depth| depth > 13)
+        }),
+        ("of a depth over 13", |input| {
+            is_moved(input, |depth, _| depth > 13)
+        }),
+    ]);
+    assert_none_is_rare(drawn_moves(), &classes);
 }

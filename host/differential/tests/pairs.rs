@@ -219,7 +219,7 @@ fn no_cell_of_an_overlay_is_made_up_or_missed() {
     for _ in 0..300 {
         let maps = [0, 1].map(|_| {
             let depth = random.below(4) as u8;
-            Map::random(depth, &mut random)
+            Map::random::<u64>(depth, &mut random)
         });
         let counted =
             |map: &Map| -> Vec<(Cell, u32)> { map.cells().iter().map(|&cell| (cell, 1)).collect() };
@@ -231,7 +231,7 @@ fn no_cell_of_an_overlay_is_made_up_or_missed() {
         let is_largest =
             |cell: &Cell| fits(*cell) && !(0..cell.depth).any(|depth| fits(cell.ancestor(depth)));
         let mut largest: Vec<Cell> = cells_to(3).filter(is_largest).collect();
-        largest.sort_by_key(|cell| cell.zuniq());
+        largest.sort_by_key(|cell| cell.zuniq::<u64>());
         let seen = overlay(&counted(&maps[0]), &counted(&maps[1]), |_, count| {
             [count; 4]
         });

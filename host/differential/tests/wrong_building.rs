@@ -6,14 +6,18 @@ use differential::{
     cells::Cell,
     compare::Kind,
     floats::Float,
-    lists::{replay, Add, Answer, Arguments, Input, Step, Value},
+    lists::{replay, Add, Answer, Arguments, Build, Input, Step, Value},
     random::Random,
+    widths::Width,
 };
 use mom::Refusal;
 
 const DRAWN: usize = 5_000;
 
-struct Program<V> {
+/// What is answered before anything is added, by what the table refuses.
+type Judge<V, Z> = fn(Option<Refusal>, &mut Arguments<V, Z>) -> Option<Answer<V>>;
+
+struct Program<V: Value, Z> {
     /// How many of so many cells are taken.
     taken: fn(usize) -> usize,
     /// How many merges may follow a cell, by the number held before the call and the cells behind.
@@ -24,10 +28,10 @@ struct Program<V> {
     merged: fn([V; 4]) -> V,
     /// How many places behind the last entry are cleared: of zuniqs, and of values.
     cleared: fn(usize) -> [usize; 2],
-    refuse: fn(Refusal, &mut Arguments<V>) -> Refusal,
+    judge: Judge<V, Z>,
 }
 
-impl<V: Value> Program<V> {
+impl<V: Value, Z: Width> Program<V, Z> {
     /// The scope's.
     fn right(merged: fn([V; 4]) -> V) -> Self {
         Program {
@@ -40,22 +44,22 @@ impl<V: Value> Program<V> {
             merges: |above, chi, t| above >= 0 && chi < t,
             merged,
             cleared: |places| [places; 2],
-            refuse: |refusal, _| refusal,
+            judge: |due, _| due.map(Err),
         }
     }
 
     fn add(
         &self,
         map: &mut Vec<(Cell, V)>,
-        mut call: Arguments<V>,
+        mut call: Arguments<V, Z>,
         refusal: Option<Refusal>,
     ) -> Answer<V> {
-        if let Some(refusal) = refusal {
-            return Err((self.refuse)(refusal, &mut call));
+        if let Some(answer) = (self.judge)(refusal, &mut call) {
+            return answer;
         }
         let (held, cells) = (map.len(), call.hashes.len());
         for place in 0..(self.taken)(cells) {
-            let (depth, hash) = (call.depth, call.hashes[place]);
+            let (depth, hash) = (call.depth, call.hashes[place].bits());
             map.push((Cell { depth, hash }, call.batch[place]));
             for _ in 0..(self.most_merges)(held, cells - 1 - place) {
                 let Some(parent) = self.parent(map, &call) else {
@@ -71,7 +75,7 @@ impl<V: Value> Program<V> {
         }
         let entries = map.len();
         let [zuniqs, values] = (self.cleared)(call.zuniqs.len() - entries);
-        call.zuniqs[entries..][..zuniqs].fill(0);
+        call.zuniqs[entries..][..zuniqs].fill(Z::of(0));
         call.values[entries..][..values].fill(V::ZERO);
         let entries: Vec<_> = map
             .iter()
@@ -81,7 +85,7 @@ impl<V: Value> Program<V> {
     }
 
     /// What the last four entries become, if they are merged.
-    fn parent(&self, map: &[(Cell, V)], call: &Arguments<V>) -> Option<(Cell, V)> {
+    fn parent(&self, map: &[(Cell, V)], call: &Arguments<V, Z>) -> Option<(Cell, V)> {
         let &[a, b, c, d] = map.last_chunk()?;
         let (cells, values) = ([a, b, c, d].map(|x| x.0), [a, b, c, d].map(|x| x.1));
         if !(self.are_siblings)(cells) {
@@ -94,34 +98,36 @@ impl<V: Value> Program<V> {
         merges.then(|| (a.0.ancestor(depth), (self.merged)(values)))
     }
 
-    fn steps(&self, input: &Input<V>) -> Vec<Step<V>> {
+    fn steps(&self, input: &Input<V, Z>) -> Vec<Step<V, Z>> {
         let mut map = Vec::new();
         replay(input, |call, refusal| self.add(&mut map, call, refusal))
     }
 }
 
-/// Lists, with what the original makes of each.
-struct Drawn<V: Value>(Vec<(Input<V>, Vec<Step<V>>)>);
+/// A list, with what the original makes of it.
+type Judged<V, Z> = (Input<V, Z>, Vec<Step<V, Z>>);
 
-impl<V: Value> Drawn<V> {
+struct Drawn<V: Value, Z>(Vec<Judged<V, Z>>);
+
+impl<V: Build<Z>, Z: Width> Drawn<V, Z> {
     fn new(seed: u64) -> Self {
         let mut random = Random::new(seed);
         let lists = (0..DRAWN).map(|_| {
             let input = Input::random(&mut random);
-            let steps = Add::<V>::original(&input);
+            let steps = Add::<V, Z>::original(&input);
             (input, steps)
         });
         Drawn(lists.collect())
     }
 
-    fn differing(&self, program: &Program<V>) -> usize {
+    fn differing(&self, program: &Program<V, Z>) -> usize {
         let lists = self.0.iter();
         lists
             .filter(|(input, steps)| program.steps(input) != *steps)
             .count()
     }
 
-    fn assert_found(&self, wrong: &str, program: Program<V>) {
+    fn assert_found(&self, wrong: &str, program: Program<V, Z>) {
         let differing = self.differing(&program);
         assert!(
             differing * 1000 > DRAWN,
@@ -161,30 +167,69 @@ impl<V: Value> Drawn<V> {
         found!("without T", merges: |above, _, _| above >= 0);
         found!("a zuniq not cleared", cleared: |places| [places.saturating_sub(1), places]);
         found!("a value not cleared", cleared: |places| [places, places.saturating_sub(1)]);
-        found!("a refused call clears the zuniqs", refuse: |refusal, call| {
-            call.zuniqs.fill(0);
-            refusal
+        found!("a refused call clears the zuniqs", judge: |due, call| {
+            due.map(|refusal| {
+                call.zuniqs.fill(Z::of(0));
+                Err(refusal)
+            })
         });
-        found!("a refused call clears the last value", refuse: |refusal, call| {
-            if let Some(last) = call.values.last_mut() {
-                *last = V::ZERO;
-            }
-            refusal
+        found!("a refused call clears the last value", judge: |due, call| {
+            due.map(|refusal| {
+                if let Some(last) = call.values.last_mut() {
+                    *last = V::ZERO;
+                }
+                Err(refusal)
+            })
         });
-        found!("the place of a refusal lost", refuse: |refusal, _| Refusal::of(refusal.number(), 0).unwrap());
+        found!("the place of a refusal lost", judge: |due, _| {
+            due.map(|refusal| Err(Refusal::of(refusal.number(), 0).unwrap()))
+        });
     }
+}
+
+fn sum(counts: [u32; 4]) -> u32 {
+    counts.iter().sum()
 }
 
 #[test]
 fn no_wrong_building_from_counts_is_missed() {
-    fn sum(counts: [u32; 4]) -> u32 {
-        counts.iter().sum()
+    fn at<Z: Width>() {
+        let drawn = Drawn::<u32, Z>::new(11);
+        drawn.assert_all_found(sum);
+        let wrong = |merged| Program::right(merged);
+        drawn.assert_found("the mean", wrong(|counts| sum(counts) / 4));
+        drawn.assert_found("three counts", wrong(|[n0, n1, n2, _]| n0 + n1 + n2));
     }
-    let drawn = Drawn::<u32>::new(11);
-    drawn.assert_all_found(sum);
-    let wrong = |merged| Program::right(merged);
-    drawn.assert_found("the mean", wrong(|counts| sum(counts) / 4));
-    drawn.assert_found("three counts", wrong(|[n0, n1, n2, _]| n0 + n1 + n2));
+    at::<u64>();
+    at::<u32>();
+}
+
+/// What a narrow call answers that takes depths up to 29: where nothing else is refused, that the map
+/// stays.
+fn taken_to_29(due: Option<Refusal>, call: &mut Arguments<u32, u32>) -> Option<Answer<u32>> {
+    if due != Some(Refusal::DepthOutOfRange) || call.depth > 29 {
+        return due.map(Err);
+    }
+    call.depth = 13;
+    Some(call.refusal().map_or(Ok((call.held, 0)), Err))
+}
+
+#[test]
+fn no_wrong_limit_of_narrow_building_is_missed() {
+    let drawn = Drawn::<u32, u32>::new(13);
+    let depths_to_29 = Program {
+        judge: taken_to_29,
+        ..Program::right(sum)
+    };
+    drawn.assert_found("29 for 13", depths_to_29);
+    let m_to_13 = Program {
+        judge: |due, call| match call.depth_threshold {
+            14..=29 if call.depth <= 13 => Some(Err(Refusal::DepthThresholdOutOfRange)),
+            _ => due.map(Err),
+        },
+        ..Program::right(sum)
+    };
+    drawn.assert_found("13 for the 29 of M", m_to_13);
 }
 
 #[test]
@@ -192,7 +237,7 @@ fn no_wrong_building_from_densities_is_missed() {
     fn quarter([m0, m1, m2, m3]: [Float; 4]) -> Float {
         Float((((m0.0 + m1.0) + m2.0) + m3.0) / 4.0)
     }
-    let drawn = Drawn::<Float>::new(12);
+    let drawn = Drawn::<Float, u64>::new(12);
     drawn.assert_all_found(quarter);
     let wrong = |merged| Program::right(merged);
     drawn.assert_found("the first", wrong(|[m0, ..]| m0));

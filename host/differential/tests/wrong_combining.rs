@@ -32,8 +32,7 @@ struct Program<V: Combine> {
 }
 
 fn total_of<V: Combine>(maps: &[&Given<V>]) -> V::Total {
-    let entries = maps.iter().flat_map(|map| map.entries());
-    let entries: Vec<_> = entries.map(|(cell, value)| (cell.zuniq(), value)).collect();
+    let entries: Vec<_> = maps.iter().flat_map(|map| map.entries()).collect();
     V::total(&entries)
 }
 

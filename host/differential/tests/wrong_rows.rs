@@ -7,6 +7,7 @@ use differential::{
     kinds::{CheckOfRows, ContainingInRows, OverlappedInRows},
     kinds::{DensityOfCount, Read, RowValue, Write},
     random::Random,
+    widths::Width,
 };
 
 const DRAWN: usize = 20_000;
@@ -43,11 +44,14 @@ fn no_wrong_density_is_missed() {
     });
 }
 
-type Entries<V> = Vec<(u64, V)>;
+type Entries<V, Z = u64> = Vec<(Z, V)>;
 
-fn assert_reading_is_found<V: RowValue>(wrong: &str, change: fn(Entries<V>) -> Entries<V>) {
-    assert_found::<Read<V>>(wrong, |bytes| {
-        let (entries, _) = Read::<V>::ours(bytes)?;
+fn assert_reading_is_found<V: RowValue<Z>, Z: Width>(
+    wrong: &str,
+    change: fn(Entries<V, Z>) -> Entries<V, Z>,
+) {
+    assert_found::<Read<V, Z>>(wrong, |bytes| {
+        let (entries, _) = Read::<V, Z>::ours(bytes)?;
         let entries = change(entries);
         let number = entries.len();
         Ok((entries, number))
@@ -56,17 +60,25 @@ fn assert_reading_is_found<V: RowValue>(wrong: &str, change: fn(Entries<V>) -> E
 
 #[test]
 fn no_wrong_reading_is_missed() {
-    assert_reading_is_found::<u32>("big-endian counts", |rows| {
-        rows.iter().map(|&(z, n)| (z, n.swap_bytes())).collect()
+    fn at<Z: Width>() {
+        assert_reading_is_found::<u32, Z>("big-endian counts", |rows| {
+            rows.iter().map(|&(z, n)| (z, n.swap_bytes())).collect()
+        });
+        assert_reading_is_found::<u32, Z>("without the last row", |mut rows| {
+            rows.pop();
+            rows
+        });
+        assert_reading_is_found::<u32, Z>("zuniqs without their last bit", |rows| {
+            let all = Z::of(u64::MAX) >> 1;
+            rows.iter().map(|&(z, n)| (z & all, n)).collect()
+        });
+    }
+    at::<u64>();
+    at::<u32>();
+    assert_reading_is_found::<u32, u32>("counts before zuniqs", |rows| {
+        rows.iter().map(|&(z, n)| (n, z)).collect()
     });
-    assert_reading_is_found::<u32>("without the last row", |mut rows| {
-        rows.pop();
-        rows
-    });
-    assert_reading_is_found::<u32>("zuniqs of 63 bits", |rows| {
-        rows.iter().map(|&(z, n)| (z & !(1 << 63), n)).collect()
-    });
-    assert_reading_is_found::<u64>("one NaN for all", |rows| {
+    assert_reading_is_found::<u64, u64>("one NaN for all", |rows| {
         let one = |p| {
             if f64::from_bits(p).is_nan() {
                 f64::NAN.to_bits()
@@ -76,7 +88,7 @@ fn no_wrong_reading_is_missed() {
         };
         rows.iter().map(|&(z, p)| (z, one(p))).collect()
     });
-    assert_reading_is_found::<u64>("values before zuniqs", |rows| {
+    assert_reading_is_found::<u64, u64>("values before zuniqs", |rows| {
         rows.iter().map(|&(z, p)| (p, z)).collect()
     });
 }
@@ -86,6 +98,10 @@ fn no_wrong_writing_is_missed() {
     assert_found::<Write<u32>>("in 16 bytes a row", |entries| {
         let wide: Entries<u64> = entries.iter().map(|&(z, n)| (z, n as u64)).collect();
         Write::<u64>::ours(&wide)
+    });
+    assert_found::<Write<u32, u32>>("in 12 bytes a row", |entries| {
+        let wide: Entries<u32> = entries.iter().map(|&(z, n)| (z as u64, n)).collect();
+        Write::<u32>::ours(&wide)
     });
     assert_found::<Write<u64>>("the quiet NaN", |entries| {
         let quiet = |p| {
@@ -102,65 +118,77 @@ fn no_wrong_writing_is_missed() {
 /// The wrong check is asked the hashes, all of one depth.
 #[test]
 fn no_wrong_check_of_rows_is_missed() {
-    let of_hashes = |wrong, change: fn(&mut Vec<u64>)| {
-        assert_found::<CheckOfRows>(wrong, |input| {
+    fn of_hashes<Z: Width>(wrong: &str, change: fn(&mut Vec<u64>)) {
+        assert_found::<CheckOfRows<Z>>(wrong, |input| {
             let mut input = input.clone();
             change(&mut input.hashes);
-            CheckOfRows::original(&input)
+            CheckOfRows::<Z>::original(&input)
         });
-    };
-    of_hashes("without the last row", |hashes| {
-        hashes.pop();
-    });
-    of_hashes("without the first row", |hashes| {
-        hashes.drain(..hashes.len().min(1));
-    });
-    of_hashes("equal rows taken for one", |hashes| hashes.dedup());
-    assert_found::<CheckOfRows>("any rows are a map", |_| Ok(Ok(())));
+    }
+    fn at<Z: Width>() {
+        of_hashes::<Z>("without the last row", |hashes| {
+            hashes.pop();
+        });
+        of_hashes::<Z>("without the first row", |hashes| {
+            hashes.drain(..hashes.len().min(1));
+        });
+        of_hashes::<Z>("equal rows taken for one", |hashes| hashes.dedup());
+        assert_found::<CheckOfRows<Z>>("any rows are a map", |_| Ok(Ok(())));
+    }
+    at::<u64>();
+    at::<u32>();
 }
 
 /// Wrong answers that are right where no entry is found.
 #[test]
 fn no_wrong_containing_in_rows_is_missed() {
-    let found_in = |wrong, is_seen: fn(u32) -> bool| {
-        assert_found::<ContainingInRows>(wrong, |input| {
-            let entry = ContainingInRows::original(input)?;
+    fn found_in<Z: Width>(wrong: &str, is_seen: fn(u32) -> bool) {
+        assert_found::<ContainingInRows<Z>>(wrong, |input| {
+            let entry = ContainingInRows::<Z>::original(input)?;
             Ok(entry.filter(|entry| is_seen(entry.1)))
         });
-    };
-    found_in("none", |_| false);
-    found_in("never the first row", |row| row > 0);
-    found_in("never past the first row", |row| row == 0);
-    assert_found::<ContainingInRows>("only the query itself", |input| {
-        let entry = ContainingInRows::original(input)?;
-        Ok(entry.filter(|entry| entry.0 == input.query.zuniq()))
-    });
+    }
+    fn at<Z: Width>() {
+        found_in::<Z>("none", |_| false);
+        found_in::<Z>("never the first row", |row| row > 0);
+        found_in::<Z>("never past the first row", |row| row == 0);
+        assert_found::<ContainingInRows<Z>>("only the query itself", |input| {
+            let entry = ContainingInRows::<Z>::original(input)?;
+            Ok(entry.filter(|entry| entry.0 == input.query.zuniq()))
+        });
+    }
+    at::<u64>();
+    at::<u32>();
 }
 
 #[test]
 fn no_wrong_overlapping_over_rows_is_missed() {
-    let of_run = |wrong, change: fn(&mut Entries<u32>)| {
-        assert_found::<OverlappedInRows>(wrong, |input| {
-            let mut run = OverlappedInRows::original(input)?;
+    fn of_run<Z: Width>(wrong: &str, change: fn(&mut Entries<u32, Z>)) {
+        assert_found::<OverlappedInRows<Z>>(wrong, |input| {
+            let mut run = OverlappedInRows::<Z>::original(input)?;
             change(&mut run);
             Ok(run)
         });
-    };
-    of_run("none", |run| run.clear());
-    of_run("only the first", |run| run.truncate(1));
-    of_run("without the first of several", |run| {
-        if run.len() > 1 {
-            run.remove(0);
-        }
-    });
-    of_run("without the last of several", |run| {
-        if run.len() > 1 {
-            run.pop();
-        }
-    });
-    assert_found::<OverlappedInRows>("only what lies before the query", |input| {
-        let mut run = OverlappedInRows::original(input)?;
-        run.retain(|entry| entry.0 <= input.query.zuniq());
-        Ok(run)
-    });
+    }
+    fn at<Z: Width>() {
+        of_run::<Z>("none", |run| run.clear());
+        of_run::<Z>("only the first", |run| run.truncate(1));
+        of_run::<Z>("without the first of several", |run| {
+            if run.len() > 1 {
+                run.remove(0);
+            }
+        });
+        of_run::<Z>("without the last of several", |run| {
+            if run.len() > 1 {
+                run.pop();
+            }
+        });
+        assert_found::<OverlappedInRows<Z>>("only what lies before the query", |input| {
+            let mut run = OverlappedInRows::<Z>::original(input)?;
+            run.retain(|entry| entry.0 <= input.query.zuniq());
+            Ok(run)
+        });
+    }
+    at::<u64>();
+    at::<u32>();
 }

@@ -121,7 +121,7 @@ mod tests {
         let (falling, deep) = (answers(&[&file, "29"]), answers(&[&file, "30"]));
         fs::remove_file(&file).unwrap();
         assert_eq!(falling, Err("row 1 is not above the entry before".into()));
-        let words = "refused by 1 at place 0: the depth is over 29, \
+        let words = "refused by 1 at place 0: the depth is over 29, or over 13 for a narrow map, \
                      or a merger's parent depth is over 28";
         assert_eq!(deep, Err(words.into()));
     }

@@ -1,7 +1,8 @@
 //! The functions of libmom_c.a as host/include/mom.h declares them, and the word that each answers.
 //! A new function is declared here and gets its safe form in lib.rs. Those of the ingest process are
-//! in raw/rows.rs and rows.rs.
+//! in raw/rows.rs and rows.rs, those of narrow maps in raw/narrow.rs and narrow.rs.
 
+pub mod narrow;
 pub mod rows;
 
 use crate::{Fault, MapCheck, Refusal};
@@ -490,6 +491,7 @@ mod tests {
             (refused(1, 0), Refusal::DepthOutOfRange),
             (refused(5, widest), Refusal::InvalidMap(widest as usize)),
             (refused(12, widest), Refusal::InvalidQuery(widest as usize)),
+            (refused(13, widest), Refusal::EntryTooDeep(widest as usize)),
         ] {
             assert_eq!(unpack(word), Answer::Refused(refusal));
         }
@@ -520,7 +522,7 @@ mod tests {
     #[test]
     #[should_panic(expected = "mom.h doesn't allow")]
     fn an_unknown_number_is_not_taken_for_a_refusal() {
-        unpack(refused(13, 0));
+        unpack(refused(14, 0));
     }
 
     #[test]

@@ -2,14 +2,14 @@
 
 use std::{error::Error, fmt};
 
-/// Why a call is refused: a case for each number of the scope's table, in checking order; the first
-/// that applies is given. A case that has a place holds it, counted from 0: the entry of a map, the
-/// cell of a batch, the child of a merger's four, the query of a test's two. A refused call has
-/// touched no memory that was lent to it.
+/// Why a call is refused: a case for each number of the scope's table, in checking order, but that 13
+/// is tried after 5; the first that applies is given. A case that has a place holds it, counted from
+/// 0: the entry of a map, the cell of a batch, the child of a merger's four, the query of a test's
+/// two. A refused call has touched no memory that was lent to it.
 #[derive(Clone, Copy, Debug, PartialEq, Eq, Hash)]
 #[non_exhaustive]
 pub enum Refusal {
-    /// 1: the depth is over 29, or 0 in an add call, or a merger's parent depth is over 28.
+    /// 1: the depth is over 29, or over 13 for a narrow map, or a merger's parent depth is over 28.
     DepthOutOfRange,
     /// 2: the depth threshold M is over 29.
     DepthThresholdOutOfRange,
@@ -38,6 +38,8 @@ pub enum Refusal {
     NoSpace,
     /// 12: this query is not a valid zuniq, or in containing not at the map's depth.
     InvalidQuery(usize),
+    /// 13: a map is narrowed, and this entry is deeper than 13.
+    EntryTooDeep(usize),
 }
 
 impl Refusal {
@@ -56,6 +58,7 @@ impl Refusal {
             (10, cell) => Refusal::Overflow(cell),
             (11, 0) => Refusal::NoSpace,
             (12, query) => Refusal::InvalidQuery(query),
+            (13, entry) => Refusal::EntryTooDeep(entry),
             _ => return None,
         })
     }
@@ -75,6 +78,7 @@ impl Refusal {
             Refusal::Overflow(_) => 10,
             Refusal::NoSpace => 11,
             Refusal::InvalidQuery(_) => 12,
+            Refusal::EntryTooDeep(_) => 13,
         }
     }
 
@@ -87,7 +91,8 @@ impl Refusal {
             | Refusal::CellNotAbove(place)
             | Refusal::InvalidDensity(place)
             | Refusal::Overflow(place)
-            | Refusal::InvalidQuery(place) => place,
+            | Refusal::InvalidQuery(place)
+            | Refusal::EntryTooDeep(place) => place,
             _ => 0,
         }
     }
@@ -96,7 +101,8 @@ impl Refusal {
     fn words(self) -> &'static str {
         match self {
             Refusal::DepthOutOfRange => {
-                "the depth is over 29, or a merger's parent depth is over 28"
+                "the depth is over 29, or over 13 for a narrow map, or a merger's parent depth is \
+                 over 28"
             }
             Refusal::DepthThresholdOutOfRange => "the depth threshold M is over 29",
             Refusal::InvalidThresholdOrFactor => {
@@ -126,6 +132,7 @@ impl Refusal {
             Refusal::InvalidQuery(_) => {
                 "the query is not a valid zuniq, or in containing not at the map's depth"
             }
+            Refusal::EntryTooDeep(_) => "an entry deeper than 13 is narrowed",
         }
     }
 }
@@ -145,7 +152,7 @@ mod tests {
 
     #[test]
     fn no_number_and_no_place_is_lost() {
-        for number in 1..=12 {
+        for number in 1..=13 {
             let has_place = ![1, 2, 3, 4, 11].contains(&number);
             for place in [0, 1, usize::MAX >> 8] {
                 let refusal = Refusal::of(number, place);
@@ -158,7 +165,7 @@ mod tests {
 
     #[test]
     fn no_other_number_is_a_refusal() {
-        for number in [0, 13, 64, 65, 255] {
+        for number in [0, 14, 64, 65, 255] {
             assert_eq!(Refusal::of(number, 0), None);
         }
     }
@@ -169,8 +176,8 @@ mod tests {
             Refusal::HashOutOfRange(7).to_string(),
             "refused by 7 at place 7: the cell's hash is N(depth) or more"
         );
-        let words = (1..=12).map(|number| Refusal::of(number, 0).unwrap().words());
+        let words = (1..=13).map(|number| Refusal::of(number, 0).unwrap().words());
         let different: std::collections::BTreeSet<_> = words.collect();
-        assert_eq!(different.len(), 12);
+        assert_eq!(different.len(), 13);
     }
 }

@@ -7,15 +7,19 @@ use crate::nested::{
     self,
     map::{
         mom::{
-            impls::{
-                bslice::{MomSliceImpl, V4FITS, Z4FITS},
-                zvec::MomVecImpl,
-            },
-            new_chi2_count_merger_with_depth_threshold, new_chi2_density_merger, LhsRhsBoth, Mom,
-            WritableMom, ZUniqHashT,
+            self, impls::bslice::MomSliceImpl, new_chi2_count_merger_with_depth_threshold,
+            new_chi2_density_merger, LhsRhsBoth, Mom, WritableMom,
         },
         skymap::SkyMapValue,
     },
+};
+
+pub use crate::nested::map::mom::{
+    impls::{
+        bslice::{V4FITS, Z4FITS},
+        zvec::MomVecImpl,
+    },
+    ZUniqHashT,
 };
 
 // ---- Section 1: cells and zuniq
@@ -300,4 +304,35 @@ pub unsafe fn rows_overlapped<Z: Z4FITS, V: V4FITS>(
     MomSliceImpl::new(depth, bytes)
         .get_copy_of_overlapped_cells(zuniq)
         .collect()
+}
+
+// ---- Moving between the widths. The answer is the map's depth and its entries.
+
+/// The assertion fails where one of the 32 low bits is set, as in every zuniq deeper than 13.
+pub fn zuniq_from_u64_to_u32(zuniq: u64) -> u32 {
+    mom::zuniq_from_u64_to_u32(zuniq)
+}
+
+pub fn zuniq_from_u32_to_u64(zuniq: u32) -> u64 {
+    mom::zuniq_from_u32_to_u64(zuniq)
+}
+
+pub fn to_zuniq_u32<V: SkyMapValue>(mom: MomVecImpl<u64, V>) -> (u8, Vec<(u32, V)>) {
+    let narrow = mom.to_zuniq_u32();
+    (narrow.depth_max(), narrow.owned_entries().collect())
+}
+
+pub fn to_zuniq_u64<V: SkyMapValue>(mom: MomVecImpl<u32, V>) -> (u8, Vec<(u64, V)>) {
+    let wide = mom.to_zuniq_u64();
+    (wide.depth_max(), wide.owned_entries().collect())
+}
+
+pub fn rows_to_zuniq_u32<V: V4FITS>(depth: u8, bytes: &[u8]) -> (u8, Vec<(u32, V)>) {
+    let narrow = MomSliceImpl::<u64, V>::new(depth, bytes).to_zuniq_u32_mom();
+    (narrow.depth_max(), narrow.owned_entries().collect())
+}
+
+pub fn rows_to_zuniq_u64<V: V4FITS>(depth: u8, bytes: &[u8]) -> (u8, Vec<(u64, V)>) {
+    let wide = MomSliceImpl::<u32, V>::new(depth, bytes).to_zuniq_u64_mom();
+    (wide.depth_max(), wide.owned_entries().collect())
 }

@@ -114,3 +114,46 @@ fn a_density_is_a_count_by_area() {
     let area = 4.0 * std::f64::consts::PI / 12.0;
     assert_eq!(run::density::<u64>(5, 0), 5.0 / area);
 }
+
+/// (0, 3) with 7 and (13, 10 × 4^13) with 9, at both widths.
+const WIDE: [(u64, u32); 2] = [(7 << 58, 7), ((20 << 58) + (1 << 32), 9)];
+const NARROW: [(u32, u32); 2] = [(7 << 26, 7), ((20 << 26) + 1, 9)];
+
+#[test]
+fn narrow_maps_are_checked_looked_up_and_built() {
+    let cells = [(0, 3), (13, 10 << 26)];
+    assert_eq!(
+        cells.map(|(d, h)| run::trait_to_zuniq(d, h)),
+        NARROW.map(|entry| entry.0)
+    );
+    assert_eq!(NARROW.map(|(z, _)| run::trait_from_zuniq(z)), cells);
+    let [first, last] = NARROW;
+    assert!(!run::are_overlapping(first.0, last.0));
+    let mom = run::mom(13, NARROW.to_vec());
+    assert_eq!(run::get_cell_containing(&mom, last.0), Ok(Some(last)));
+    assert_eq!(run::get_overlapped_cells(&mom, last.0), [last]);
+    let ones = (0..16u32).map(|hash| (hash, 1));
+    assert_eq!(run::build_counts(2, 0, 3.5, ones), [(1 << 26, 16)]);
+}
+
+#[test]
+fn narrow_rows_come_back() {
+    let (bytes, written) = run::write_rows(NARROW.to_vec());
+    assert_eq!((bytes.len(), written), (16, 16));
+    assert_eq!(run::read_rows::<u32, u32>(&bytes), NARROW);
+}
+
+#[test]
+fn maps_are_moved_between_the_widths() {
+    let (wide, narrow) = ((13, WIDE.to_vec()), (13, NARROW.to_vec()));
+    assert_eq!(run::to_zuniq_u32(run::mom(13, WIDE.to_vec())), narrow);
+    assert_eq!(run::to_zuniq_u64(run::mom(13, NARROW.to_vec())), wide);
+    let (bytes, _) = run::write_rows(WIDE.to_vec());
+    assert_eq!(run::rows_to_zuniq_u32(13, &bytes), narrow);
+    let (bytes, _) = run::write_rows(NARROW.to_vec());
+    assert_eq!(run::rows_to_zuniq_u64(13, &bytes), wide);
+    for ((wide, _), (narrow, _)) in WIDE.into_iter().zip(NARROW) {
+        assert_eq!(run::zuniq_from_u64_to_u32(wide), narrow);
+        assert_eq!(run::zuniq_from_u32_to_u64(narrow), wide);
+    }
+}

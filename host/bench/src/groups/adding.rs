@@ -7,6 +7,7 @@
 
 use std::time::Duration;
 
+use differential::widths::Width;
 use mom::Refusal;
 use oracle::run;
 
@@ -25,12 +26,15 @@ const THRESHOLDS: [(&str, f64); 3] = [("7.815", CHI2), ("-1", -1.0), ("infinite"
 
 pub fn run(plan: Plan) {
     let depth = 9 - plan.shallower;
-    let all = first_cells(depth, run::n_hash(depth) as usize);
+    let all = first_cells::<u64>(depth, run::n_hash(depth) as usize);
+    let narrow = first_cells::<u32>(depth, run::n_hash(depth) as usize);
     heading_with_extra("Adding", "cell", "cells");
     for (name, chi2_threshold) in THRESHOLDS {
         let work = format!("add counts, all of depth {depth}, T {name}");
         counts(plan, &work, &all, chi2_threshold);
     }
+    let work = format!("add counts, narrow, all of depth {depth}, T 7.815");
+    counts(plan, &work, &narrow, CHI2);
     let quarter = random_quarter(depth + 1);
     let work = format!(
         "add counts, a random quarter of depth {}, T 7.815",
@@ -50,7 +54,7 @@ pub fn run(plan: Plan) {
     }
 }
 
-fn counts(plan: Plan, work: &str, cells: &Cells<u32>, chi2_threshold: f64) {
+fn counts<Z: Width>(plan: Plan, work: &str, cells: &Cells<u32, Z>, chi2_threshold: f64) {
     let original = || run::build_counts(cells.depth, 0, chi2_threshold, cells.pairs());
     add(
         plan,
@@ -58,7 +62,7 @@ fn counts(plan: Plan, work: &str, cells: &Cells<u32>, chi2_threshold: f64) {
         cells,
         original,
         |zuniqs, counts, hashes, batch| {
-            mom::add_counts(
+            (Z::OURS.add_counts)(
                 cells.depth,
                 0,
                 chi2_threshold,
@@ -96,15 +100,15 @@ fn add_densities(plan: Plan, work: &str, cells: &Cells<f64>, chi2_threshold: f64
 }
 
 /// Times adding all cells to an empty map, by `ours` from two buffers and a batch.
-fn add<V: Copy + Default + PartialEq>(
+fn add<V: Copy + Default + PartialEq, Z: Width>(
     plan: Plan,
     work: &str,
-    cells: &Cells<V>,
-    original: impl Fn() -> Vec<(u64, V)>,
-    ours: impl Fn(&mut [u64], &mut [V], &[u64], &[V]) -> Result<usize, Refusal>,
+    cells: &Cells<V, Z>,
+    original: impl Fn() -> Vec<(Z, V)>,
+    ours: impl Fn(&mut [Z], &mut [V], &[Z], &[V]) -> Result<usize, Refusal>,
 ) {
     let (hashes, batch) = (&cells.hashes, &cells.values);
-    let (mut zuniqs, mut values) = (vec![0; cells.len()], vec![V::default(); cells.len()]);
+    let (mut zuniqs, mut values) = (vec![Z::of(0); cells.len()], vec![V::default(); cells.len()]);
     let times = contest(
         plan.rounds,
         || timed(|| ours(&mut zuniqs, &mut values, hashes, batch)),

@@ -12,7 +12,7 @@ pub fn run(plan: Plan) {
     heading("Growth", "cell", "cells");
     for number in [10_000, 100_000, 1_000_000, 10_000_000] {
         let number = number >> (2 * plan.shallower);
-        let cells = first_cells(10 - plan.shallower, number);
+        let cells = first_cells::<u64>(10 - plan.shallower, number);
         let (mut zuniqs, mut counts) = (vec![0; number], vec![0; number]);
         let mut ours = || {
             let (hashes, batch) = (&cells.hashes, &cells.values);

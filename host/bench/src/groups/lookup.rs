@@ -1,6 +1,9 @@
 //! The map check and the lookups, a million questions to a map of a million entries.
 
-use differential::random::Random;
+use differential::{
+    random::Random,
+    widths::{named, Width},
+};
 use oracle::run;
 
 use super::Plan;
@@ -12,17 +15,21 @@ use crate::{
 pub fn run(plan: Plan) {
     let depth = 10 - plan.shallower;
     let number = 1_000_000 >> (2 * plan.shallower);
-    let map = count_map(depth, number, 1);
+    let map = count_map::<u64>(depth, number, 1);
+    let narrow = count_map::<u32>(depth, number, 1);
     heading("Map check", "entry", "entries");
     check(plan, depth, number, &map);
+    check(plan, depth, number, &narrow);
     heading("Lookup", "query", "queries");
     let mut random = Random::new(4);
     let mut cells: Vec<u64> = (0..number)
         .map(|_| random.below(run::n_hash(depth)))
         .collect();
     containing(plan, "containing, random", &map, &cells);
+    containing(plan, "containing, narrow, random", &narrow, &cells);
     cells.sort_unstable();
     containing(plan, "containing, in order", &map, &cells);
+    containing(plan, "containing, narrow, in order", &narrow, &cells);
     for (name, query_depth) in [
         ("small", depth),
         ("larger", depth - 3),
@@ -47,39 +54,42 @@ pub fn run(plan: Plan) {
 }
 
 /// The original takes every entry above the map's depth for a fault: it gets a map without any.
-fn check(plan: Plan, depth: u8, number: usize, mixed: &Map<u32>) {
+fn check<Z: Width>(plan: Plan, depth: u8, number: usize, mixed: &Map<u32, Z>) {
     let mut random = Random::new(5);
-    let entries: Vec<(u64, u32)> = (0..run::n_hash(depth))
+    let entries: Vec<(Z, u32)> = (0..run::n_hash(depth))
         .filter(|_| random.below(2) == 0)
         .take(number)
-        .map(|hash| (run::trait_to_zuniq(depth, hash), 1))
+        .map(|hash| (run::trait_to_zuniq(depth, Z::of(hash)), 1))
         .collect();
     let map = Map::of(depth, &entries);
     let original = run::mom(depth, entries);
     let valid = Ok(mom::MapCheck::Valid);
-    let ours = |map: &Map<u32>| assert_eq!(mom::check_is_mom(map.depth, &map.zuniqs), valid);
+    let ours = |map: &Map<u32, Z>| {
+        assert_eq!((Z::OURS.check_is_mom)(map.depth, &map.zuniqs), valid);
+    };
     let times = contest(
         plan.rounds,
         || timed(|| ours(&map)),
         || timed(|| assert_eq!(run::check_is_mom(&original), Ok(()))),
     );
-    row("check, entries of one depth", map.len(), times);
+    let check = named::<Z>("check", "check, narrow");
+    row(&format!("{check}, entries of one depth"), map.len(), times);
     row_alone(
-        "check, entries of all depths",
+        &format!("{check}, entries of all depths"),
         mixed.len(),
         alone(plan.rounds, || timed(|| ours(mixed))),
     );
 }
 
-fn containing(plan: Plan, work: &str, map: &Map<u32>, cells: &[u64]) {
+fn containing<Z: Width>(plan: Plan, work: &str, map: &Map<u32, Z>, cells: &[u64]) {
     let original = run::mom(map.depth, map.entries());
-    let queries: Vec<u64> = cells
+    let queries: Vec<Z> = cells
         .iter()
-        .map(|&h| run::trait_to_zuniq(map.depth, h))
+        .map(|&h| run::trait_to_zuniq(map.depth, Z::of(h)))
         .collect();
     let ours = || -> u64 {
-        let found = |&q| mom::get_cell_containing(map.depth, &map.zuniqs, q).unwrap();
-        let zuniq = |place: Option<usize>| place.map_or(0, |place| map.zuniqs[place]);
+        let found = |&q| (Z::OURS.get_cell_containing)(map.depth, &map.zuniqs, q).unwrap();
+        let zuniq = |place: Option<usize>| place.map_or(0, |place| map.zuniqs[place].bits());
         queries
             .iter()
             .map(|q| zuniq(found(q)))
@@ -89,7 +99,7 @@ fn containing(plan: Plan, work: &str, map: &Map<u32>, cells: &[u64]) {
         let found = |&q| run::get_cell_containing(&original, q).unwrap();
         queries
             .iter()
-            .map(|q| found(q).map_or(0, |entry| entry.0))
+            .map(|q| found(q).map_or(0, |entry| entry.0.bits()))
             .fold(0, u64::wrapping_add)
     };
     assert_eq!(ours(), theirs(), "{work}: answers differ");

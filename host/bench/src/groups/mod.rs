@@ -4,6 +4,7 @@ pub mod adding;
 pub mod combining;
 pub mod growth;
 pub mod lookup;
+pub mod moving;
 pub mod program;
 pub mod rows;
 
@@ -22,7 +23,7 @@ pub struct Group {
     pub run: fn(Plan),
 }
 
-pub const GROUPS: [Group; 6] = [
+pub const GROUPS: [Group; 7] = [
     Group {
         name: "adding",
         run: adding::run,
@@ -38,6 +39,10 @@ pub const GROUPS: [Group; 6] = [
     Group {
         name: "rows",
         run: rows::run,
+    },
+    Group {
+        name: "moving",
+        run: moving::run,
     },
     Group {
         name: "mombuild",

@@ -2,11 +2,9 @@
 //! bytes. The original has its map in one vector of pairs, ours in two buffers, and its densities as
 //! their patterns.
 
+use differential::widths::{named, Width};
 use mom::{
-    rows::{
-        read_count_rows, read_density_rows, write_count_rows, write_density_rows, COUNT_ROW,
-        DENSITY_ROW,
-    },
+    rows::{read_density_rows, write_density_rows, DENSITY_ROW},
     Refusal,
 };
 use oracle::run;
@@ -18,7 +16,9 @@ use crate::{
 };
 
 pub fn run(plan: Plan) {
-    let counts = count_map(10 - plan.shallower, 1_000_000 >> (2 * plan.shallower), 1);
+    let (depth, number) = (10 - plan.shallower, 1_000_000 >> (2 * plan.shallower));
+    let counts = count_map::<u64>(depth, number, 1);
+    let narrow = count_map::<u32>(depth, number, 1);
     let densities = density_map(&counts);
     let patterns = Map {
         depth: densities.depth,
@@ -29,21 +29,10 @@ pub fn run(plan: Plan) {
             .map(|density| density.to_bits())
             .collect(),
     };
-    let (count_mom, density_mom) = (
-        run::mom(counts.depth, counts.entries()),
-        run::mom(densities.depth, densities.entries()),
-    );
+    let density_mom = run::mom(densities.depth, densities.entries());
     heading("Rows", "row", "rows");
-    rows(
-        plan,
-        "count rows",
-        COUNT_ROW,
-        &counts,
-        (write_count_rows, read_count_rows),
-        |bytes| run::write_rows_into(&count_mom, bytes),
-        run::read_rows_into,
-        |count: u32| count,
-    );
+    count_rows(plan, &counts);
+    count_rows(plan, &narrow);
     rows(
         plan,
         "density rows",
@@ -56,19 +45,33 @@ pub fn run(plan: Plan) {
     );
 }
 
-type Write<V> = fn(&[u64], &[V], &mut [u8]) -> Result<usize, Refusal>;
-type Read<V> = fn(&[u8], &mut [u64], &mut [V]) -> Result<usize, Refusal>;
+fn count_rows<Z: Width>(plan: Plan, counts: &Map<u32, Z>) {
+    let mom = run::mom(counts.depth, counts.entries());
+    rows(
+        plan,
+        named::<Z>("count rows", "narrow count rows"),
+        Z::OURS.count_row,
+        counts,
+        (Z::OURS.write_count_rows, Z::OURS.read_count_rows),
+        |bytes| run::write_rows_into(&mom, bytes),
+        run::read_rows_into,
+        |count: u32| count,
+    );
+}
+
+type Write<V, Z> = fn(&[Z], &[V], &mut [u8]) -> Result<usize, Refusal>;
+type Read<V, Z> = fn(&[u8], &mut [Z], &mut [V]) -> Result<usize, Refusal>;
 
 /// Times writing and reading one kind of rows. `as_ours` is a value of the original as ours has it.
 #[allow(clippy::too_many_arguments)]
-fn rows<V: Copy + Default + PartialEq, W: Copy + Default>(
+fn rows<V: Copy + Default + PartialEq, W: Copy + Default, Z: Width>(
     plan: Plan,
     kind: &str,
     row_size: usize,
-    map: &Map<V>,
-    (write, read): (Write<V>, Read<V>),
+    map: &Map<V, Z>,
+    (write, read): (Write<V, Z>, Read<V, Z>),
     original_write: impl Fn(&mut [u8]) -> usize,
-    original_read: impl Fn(&[u8], &mut [u64], &mut [W]),
+    original_read: impl Fn(&[u8], &mut [Z], &mut [W]),
     as_ours: impl Fn(W) -> V,
 ) {
     let n = map.len();
@@ -80,8 +83,8 @@ fn rows<V: Copy + Default + PartialEq, W: Copy + Default>(
     );
     assert!(bytes == theirs, "{kind}: bytes differ");
     row(&format!("write {kind}"), n, times);
-    let (mut zuniqs, mut values) = (vec![0; n], vec![V::default(); n]);
-    let (mut their_zuniqs, mut their_values) = (vec![0; n], vec![W::default(); n]);
+    let (mut zuniqs, mut values) = (vec![Z::of(0); n], vec![V::default(); n]);
+    let (mut their_zuniqs, mut their_values) = (vec![Z::of(0); n], vec![W::default(); n]);
     let times = contest(
         plan.rounds,
         || timed(|| read(&bytes, &mut zuniqs, &mut values).unwrap()),

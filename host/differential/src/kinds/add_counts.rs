@@ -4,13 +4,13 @@ use mom::Added;
 use oracle::run;
 
 use crate::{
-    lists::{stretch, Answer, Arguments, Value},
+    lists::{stretch, Answer, Arguments, Build, Value},
     quads::Quad,
     random::Random,
+    widths::{named, Width},
 };
 
 impl Value for u32 {
-    const NAME: &'static str = "add_counts";
     const ZERO: u32 = 0;
     const LEAST_CHI2: f64 = 0.0;
     type Total = u32;
@@ -72,8 +72,16 @@ impl Value for u32 {
         counts
     }
 
-    fn add(call: Arguments<u32>) -> Answer<u32> {
-        let Added { entries, total } = mom::add_counts(
+    fn total<C>(cells: &[(C, u32)]) -> u32 {
+        cells.iter().map(|&(_, count)| count).sum()
+    }
+}
+
+impl<Z: Width> Build<Z> for u32 {
+    const NAME: &'static str = named::<Z>("add_counts", "narrow_add_counts");
+
+    fn add(call: Arguments<u32, Z>) -> Answer<u32> {
+        let Added { entries, total } = (Z::OURS.add_counts)(
             call.depth,
             call.depth_threshold,
             call.chi2_threshold,
@@ -86,11 +94,7 @@ impl Value for u32 {
         Ok((entries, total))
     }
 
-    fn build(depth: u8, m: u8, t: f64, cells: &[(u64, u32)]) -> Vec<(u64, u32)> {
+    fn build(depth: u8, m: u8, t: f64, cells: &[(Z, u32)]) -> Vec<(Z, u32)> {
         run::build_counts(depth, m, t, cells.iter().copied())
-    }
-
-    fn total(cells: &[(u64, u32)]) -> u32 {
-        cells.iter().map(|&(_, count)| count).sum()
     }
 }

@@ -4,7 +4,7 @@ use oracle::run;
 
 use crate::{
     floats::{near, Float},
-    lists::{stretch, Answer, Arguments, Value},
+    lists::{stretch, Answer, Arguments, Build, Value},
     quads::{around_one, density, unit_density, valid, Quad},
     random::Random,
 };
@@ -14,7 +14,6 @@ fn numbers(values: &[Float]) -> Vec<f64> {
 }
 
 impl Value for Float {
-    const NAME: &'static str = "add_densities";
     const ZERO: Float = Float(0.0);
     /// Of four densities far below c.
     const LEAST_CHI2: f64 = -4.0;
@@ -77,6 +76,12 @@ impl Value for Float {
         densities.into_iter().map(Float).collect()
     }
 
+    fn total<C>(_cells: &[(C, Float)]) {}
+}
+
+impl Build<u64> for Float {
+    const NAME: &'static str = "add_densities";
+
     fn add(call: Arguments<Float>) -> Answer<Float> {
         let mut densities = numbers(call.values);
         let answer = mom::add_densities(
@@ -100,6 +105,4 @@ impl Value for Float {
         let entries = run::build_densities(depth, m, t, cells).into_iter();
         entries.map(|(zuniq, m)| (zuniq, Float(m))).collect()
     }
-
-    fn total(_cells: &[(u64, Float)]) {}
 }

@@ -1,5 +1,7 @@
 //! The overlap test on pairs of valid zuniqs, most of them of cells near each other.
 
+use std::marker::PhantomData;
+
 use mom::Refusal;
 use oracle::run;
 
@@ -7,9 +9,10 @@ use crate::{
     cells::{cells_to, Cell},
     compare::Kind,
     random::Random,
+    widths::{named, Width},
 };
 
-pub struct AreOverlapping;
+pub struct AreOverlapping<Z>(PhantomData<Z>);
 
 #[derive(Debug, PartialEq, Eq, PartialOrd, Ord)]
 pub struct Pair {
@@ -17,8 +20,8 @@ pub struct Pair {
     right: Cell,
 }
 
-impl Kind for AreOverlapping {
-    const NAME: &'static str = "are_overlapping";
+impl<Z: Width> Kind for AreOverlapping<Z> {
+    const NAME: &'static str = named::<Z>("are_overlapping", "narrow_are_overlapping");
     type Input = Pair;
     type Answer = Result<bool, Refusal>;
 
@@ -27,8 +30,8 @@ impl Kind for AreOverlapping {
     }
 
     fn random(random: &mut Random) -> Option<Pair> {
-        let cell = Cell::random(random);
-        let relative = cell.relative(random);
+        let cell = Cell::random::<Z>(random);
+        let relative = cell.relative::<Z>(random);
         let (left, right) = if random.coin() {
             (cell, relative)
         } else {
@@ -38,10 +41,13 @@ impl Kind for AreOverlapping {
     }
 
     fn ours(pair: &Pair) -> Self::Answer {
-        mom::are_overlapping(pair.left.zuniq(), pair.right.zuniq())
+        (Z::OURS.are_overlapping)(pair.left.zuniq(), pair.right.zuniq())
     }
 
     fn original(pair: &Pair) -> Self::Answer {
-        Ok(run::are_overlapping(pair.left.zuniq(), pair.right.zuniq()))
+        Ok(run::are_overlapping::<Z>(
+            pair.left.zuniq(),
+            pair.right.zuniq(),
+        ))
     }
 }

@@ -2,16 +2,19 @@
 //! depths the wrong way round, and the last one's never. It names the two entries that don't rise, so
 //! that the place is compared by them.
 
+use std::marker::PhantomData;
+
 use mom::{Fault, MapCheck, Refusal};
 use oracle::run;
 
 use crate::{
-    cells::{n_hash, Cell, DEPTH_MAX},
+    cells::{n_hash, Cell},
     compare::Kind,
     random::Random,
+    widths::{named, Width},
 };
 
-pub struct CheckIsMom;
+pub struct CheckIsMom<Z>(PhantomData<Z>);
 
 #[derive(Clone, Debug, PartialEq, Eq, PartialOrd, Ord)]
 pub struct Input {
@@ -24,7 +27,7 @@ pub struct Input {
 pub type Answer = Result<Result<(), String>, Refusal>;
 
 impl Input {
-    pub fn zuniqs(&self) -> Vec<u64> {
+    pub fn zuniqs<Z: Width>(&self) -> Vec<Z> {
         let cell = |&hash| Cell {
             depth: self.depth,
             hash,
@@ -34,7 +37,7 @@ impl Input {
 }
 
 /// What ours found, in the original's words where it has them.
-pub fn told(check: MapCheck, zuniqs: &[u64]) -> Result<(), String> {
+pub fn told<Z: Width>(check: MapCheck, zuniqs: &[Z]) -> Result<(), String> {
     match check {
         MapCheck::Valid => Ok(()),
         MapCheck::Faulty {
@@ -48,8 +51,8 @@ pub fn told(check: MapCheck, zuniqs: &[u64]) -> Result<(), String> {
     }
 }
 
-impl Kind for CheckIsMom {
-    const NAME: &'static str = "check_is_mom";
+impl<Z: Width> Kind for CheckIsMom<Z> {
+    const NAME: &'static str = named::<Z>("check_is_mom", "narrow_check_is_mom");
     type Input = Input;
     type Answer = Answer;
 
@@ -68,9 +71,9 @@ impl Kind for CheckIsMom {
     /// Rising hashes with small and large gaps, of which now and then some are swapped, repeated or
     /// changed.
     fn random(random: &mut Random) -> Option<Input> {
-        let depth = random.below(DEPTH_MAX as u64 + 1) as u8;
+        let depth = random.below(Z::DEPTH_MAX as u64 + 1) as u8;
         let n = n_hash(depth);
-        let near = Cell::random(random).to_depth_at_most(depth).hash;
+        let near = Cell::random::<Z>(random).to_depth_at_most(depth).hash;
         let mut hashes: Vec<u64> = (0..random.below(40))
             .map(|_| match random.below(4) {
                 0 => random.below(n),
@@ -95,12 +98,12 @@ impl Kind for CheckIsMom {
 
     fn ours(input: &Input) -> Self::Answer {
         let zuniqs = input.zuniqs();
-        let check = mom::check_is_mom(input.depth, &zuniqs)?;
+        let check = (Z::OURS.check_is_mom)(input.depth, &zuniqs)?;
         Ok(told(check, &zuniqs))
     }
 
     fn original(input: &Input) -> Self::Answer {
-        let entries = input.zuniqs().into_iter().map(|zuniq| (zuniq, 0u32));
+        let entries = input.zuniqs::<Z>().into_iter().map(|zuniq| (zuniq, 0u32));
         let mom = run::mom(input.depth, entries.collect());
         Ok(run::check_is_mom(&mom))
     }

@@ -1,16 +1,19 @@
 //! The entry over a cell of the map's depth, in valid maps, against both of the original's calls.
 
+use std::marker::PhantomData;
+
 use mom::Refusal;
 use oracle::run;
 
 use crate::{
-    cells::{n_hash, Cell, DEPTH_MAX},
+    cells::{n_hash, Cell},
     compare::Kind,
     maps::{at_depth, Map},
     random::Random,
+    widths::{named, Width},
 };
 
-pub struct GetCellContaining;
+pub struct GetCellContaining<Z>(PhantomData<Z>);
 
 #[derive(Debug, PartialEq, Eq, PartialOrd, Ord)]
 pub struct Input {
@@ -19,11 +22,11 @@ pub struct Input {
     pub query: Cell,
 }
 
-impl Kind for GetCellContaining {
-    const NAME: &'static str = "get_cell_containing";
+impl<Z: Width> Kind for GetCellContaining<Z> {
+    const NAME: &'static str = named::<Z>("get_cell_containing", "narrow_get_cell_containing");
     type Input = Input;
     /// The zuniq of the entry and its place, or none.
-    type Answer = [Result<Option<(u64, u32)>, Refusal>; 2];
+    type Answer = [Result<Option<(Z, u32)>, Refusal>; 2];
 
     fn small() -> impl Iterator<Item = Input> {
         Map::small().flat_map(|map| {
@@ -40,20 +43,20 @@ impl Kind for GetCellContaining {
     }
 
     fn random(random: &mut Random) -> Option<Input> {
-        let depth = random.below(DEPTH_MAX as u64 + 1) as u8;
-        let map = Map::random(depth, random);
-        let query = at_depth(map.query(random), depth, random);
+        let depth = random.below(Z::DEPTH_MAX as u64 + 1) as u8;
+        let map = Map::random::<Z>(depth, random);
+        let query = at_depth(map.query::<Z>(random), depth, random);
         Some(Input { map, query })
     }
 
     fn ours(Input { map, query }: &Input) -> Self::Answer {
         let zuniqs = map.zuniqs();
-        let place = mom::get_cell_containing(query.depth, &zuniqs, query.zuniq());
+        let place = (Z::OURS.get_cell_containing)(query.depth, &zuniqs, query.zuniq());
         [place.map(|place| place.map(|place| (zuniqs[place], place as u32))); 2]
     }
 
     fn original(Input { map, query }: &Input) -> Self::Answer {
-        let (mom, zuniq) = (run::mom(query.depth, map.entries()), query.zuniq());
+        let (mom, zuniq) = (run::mom(query.depth, map.entries::<Z>()), query.zuniq());
         [
             Ok(run::get_cell_containing(&mom, zuniq).unwrap()),
             Ok(run::get_copy_of_cell_containing(&mom, zuniq).unwrap()),

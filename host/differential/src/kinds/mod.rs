@@ -1,4 +1,4 @@
-//! Every kind of comparison, in the order of the scope's sections.
+//! Every kind of comparison, in the order of the scope's sections; then those of narrow maps.
 
 mod add_counts;
 mod add_densities;
@@ -12,6 +12,7 @@ mod from_zuniq;
 mod get_cell_containing;
 mod get_overlapped_cells;
 mod maps_of_rows;
+mod moving;
 mod n_hash;
 mod pool;
 mod product;
@@ -26,7 +27,7 @@ use crate::{
 };
 
 pub use are_overlapping::AreOverlapping;
-pub use check_is_mom::CheckIsMom;
+pub use check_is_mom::{told, CheckIsMom};
 pub use chi::{CountChi, DensityChi};
 pub use count_merger::CountMerger;
 pub use density_merger::DensityMerger;
@@ -35,11 +36,12 @@ pub use from_zuniq::FromZuniq;
 pub use get_cell_containing::GetCellContaining;
 pub use get_overlapped_cells::GetOverlappedCells;
 pub use maps_of_rows::{CheckOfRows, ContainingInRows, OverlappedInRows};
+pub use moving::{Input as MoveInput, Move, MoveBuilt};
 pub use n_hash::NHash;
 pub use rows::{Read, Value as RowValue, Write};
 pub use to_zuniq::ToZuniq;
 
-pub type AddCounts = Add<u32>;
+pub type AddCounts<Z> = Add<u32, Z>;
 pub type AddDensities = Add<Float>;
 pub type Pool = Pair<u32>;
 pub type Product = Pair<Float>;
@@ -58,26 +60,42 @@ const fn entry<K: Kind>() -> Entry {
 
 pub static KINDS: &[Entry] = &[
     entry::<NHash>(),
-    entry::<ToZuniq>(),
-    entry::<FromZuniq>(),
-    entry::<AreOverlapping>(),
+    entry::<ToZuniq<u64>>(),
+    entry::<FromZuniq<u64>>(),
+    entry::<AreOverlapping<u64>>(),
     entry::<CountMerger>(),
     entry::<DensityMerger>(),
     entry::<CountChi>(),
     entry::<DensityChi>(),
-    entry::<CheckIsMom>(),
-    entry::<AddCounts>(),
+    entry::<CheckIsMom<u64>>(),
+    entry::<AddCounts<u64>>(),
     entry::<AddDensities>(),
     entry::<Pool>(),
     entry::<Product>(),
-    entry::<GetCellContaining>(),
-    entry::<GetOverlappedCells>(),
+    entry::<GetCellContaining<u64>>(),
+    entry::<GetOverlappedCells<u64>>(),
     entry::<DensityOfCount>(),
     entry::<Read<u32>>(),
     entry::<Read<u64>>(),
     entry::<Write<u32>>(),
     entry::<Write<u64>>(),
-    entry::<CheckOfRows>(),
-    entry::<ContainingInRows>(),
-    entry::<OverlappedInRows>(),
+    entry::<CheckOfRows<u64>>(),
+    entry::<ContainingInRows<u64>>(),
+    entry::<OverlappedInRows<u64>>(),
+    entry::<ToZuniq<u32>>(),
+    entry::<FromZuniq<u32>>(),
+    entry::<AreOverlapping<u32>>(),
+    entry::<CheckIsMom<u32>>(),
+    entry::<AddCounts<u32>>(),
+    entry::<GetCellContaining<u32>>(),
+    entry::<GetOverlappedCells<u32>>(),
+    entry::<Read<u32, u32>>(),
+    entry::<Write<u32, u32>>(),
+    entry::<CheckOfRows<u32>>(),
+    entry::<ContainingInRows<u32>>(),
+    entry::<OverlappedInRows<u32>>(),
+    entry::<Move<u64>>(),
+    entry::<Move<u32>>(),
+    entry::<MoveBuilt<u64>>(),
+    entry::<MoveBuilt<u32>>(),
 ];

@@ -1,4 +1,7 @@
-//! Encoding of valid cells, against the original's free function and against the zuniq type's.
+//! Encoding of valid cells, against the original's free function, which is of wide zuniqs, and against
+//! the zuniq type's.
+
+use std::marker::PhantomData;
 
 use mom::Refusal;
 use oracle::run;
@@ -7,31 +10,32 @@ use crate::{
     cells::{cells_to, Cell},
     compare::Kind,
     random::Random,
+    widths::{named, Width},
 };
 
-pub struct ToZuniq;
+pub struct ToZuniq<Z>(PhantomData<Z>);
 
-impl Kind for ToZuniq {
-    const NAME: &'static str = "to_zuniq";
+impl<Z: Width> Kind for ToZuniq<Z> {
+    const NAME: &'static str = named::<Z>("to_zuniq", "narrow_to_zuniq");
     type Input = Cell;
-    type Answer = [Result<u64, Refusal>; 2];
+    type Answer = [Result<Z, Refusal>; 2];
 
     fn small() -> impl Iterator<Item = Cell> {
         cells_to(4)
     }
 
     fn random(random: &mut Random) -> Option<Cell> {
-        Some(Cell::random(random))
+        Some(Cell::random::<Z>(random))
     }
 
     fn ours(&Cell { depth, hash }: &Cell) -> Self::Answer {
-        [mom::to_zuniq(depth, hash); 2]
+        [(Z::OURS.to_zuniq)(depth, Z::of(hash)); 2]
     }
 
     fn original(&Cell { depth, hash }: &Cell) -> Self::Answer {
         [
-            Ok(run::to_zuniq(depth, hash)),
-            Ok(run::trait_to_zuniq(depth, hash)),
+            Ok(Z::of_wide(run::to_zuniq(depth, hash))),
+            Ok(run::trait_to_zuniq(depth, Z::of(hash))),
         ]
     }
 }

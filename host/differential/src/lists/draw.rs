@@ -2,14 +2,27 @@
 
 use super::Value;
 use crate::{
-    cells::{n_hash, DEPTH_MAX},
+    cells::{n_hash, Cell, DEPTH_MAX},
     floats::Float,
     random::{any_of, Random},
+    widths::Width,
 };
 
+/// Rising cells of one depth, with M and T.
 #[derive(Debug, PartialEq, Eq, PartialOrd, Ord)]
-pub struct Input<V> {
-    pub(super) calls: Vec<Call<V>>,
+pub struct List<V> {
+    pub hashes: Vec<u64>,
+    pub values: Vec<V>,
+    pub depth: u8,
+    /// M
+    pub depth_threshold: u8,
+    /// T
+    pub chi2_threshold: Float,
+}
+
+#[derive(Debug, PartialEq, Eq, PartialOrd, Ord)]
+pub struct Input<V, Z = u64> {
+    pub(super) calls: Vec<Call<V, Z>>,
     pub depth: u8,
     /// M
     pub(super) depth_threshold: u8,
@@ -22,12 +35,12 @@ pub struct Input<V> {
 }
 
 #[derive(Clone, Debug, PartialEq, Eq, PartialOrd, Ord)]
-pub(super) struct Call<V> {
+pub(super) struct Call<V, Z> {
     /// The faults it is given; none where its batch is the next one.
     pub(super) faults: Vec<Fault<V>>,
     /// Whether the buffers are lent only as far as they are needed.
     pub(super) exactly_full: bool,
-    pub(super) hashes: Vec<u64>,
+    pub(super) hashes: Vec<Z>,
     pub(super) batch: Vec<V>,
 }
 
@@ -55,11 +68,12 @@ pub(super) enum Fault<V> {
 }
 
 impl<V: Value> Fault<V> {
-    fn random(random: &mut Random) -> Self {
+    fn random<Z: Width>(random: &mut Random) -> Self {
         let place = random.below(256) as usize;
+        let largest = Z::of(u64::MAX).bits();
         let value = any_of(random, V::faulty());
         match random.below(17) {
-            0 => Fault::Depth([0, 30, 255][place % 3]),
+            0 => Fault::Depth([0, Z::DEPTH_MAX + 1, 255][place % 3]),
             1 => Fault::DepthThreshold([30, 255][place % 2]),
             2 => Fault::Chi2Threshold,
             3 => Fault::ZuniqsShorter,
@@ -72,7 +86,7 @@ impl<V: Value> Fault<V> {
             10 => Fault::EntryTooDeep(place),
             11 => Fault::EntryAgain(place),
             12 => Fault::HeldValue(place, value),
-            13 => Fault::HashPast(place, [0, 1, u64::MAX >> 8][place % 3]),
+            13 => Fault::HashPast(place, [0, 1, largest >> 8][place % 3]),
             14 => Fault::HashNotAbove(place),
             15 => Fault::BatchValue(place, value),
             _ => Fault::OnePlaceShort,
@@ -80,67 +94,104 @@ impl<V: Value> Fault<V> {
     }
 }
 
-impl<V: Value> Input<V> {
-    /// Depth 1: any of the cells 0 to 7, cut at every point; and depth 2: cells 0 to 15.
-    pub(super) fn small() -> impl Iterator<Item = Self> {
+impl<V: Value> List<V> {
+    /// Depth 1: any of the cells 0 to 7; and depth 2: cells 0 to 15. All have one value.
+    pub fn small() -> impl Iterator<Item = Self> {
         let depth_1 = (0..256u32).map(|chosen| {
             let hashes: Vec<u64> = (0..8).filter(|hash| chosen >> hash & 1 == 1).collect();
             (1, hashes)
         });
-        let lists = depth_1.chain([(2, (0..16).collect())]);
+        let cells = depth_1.chain([(2, (0..16).collect())]);
         let settings = [(0, 0.0), (0, 3.5), (1, 3.5), (2, 3.5)];
-        lists.flat_map(move |(depth, hashes)| {
-            (0..=hashes.len()).flat_map(move |cut| {
+        cells.flat_map(move |(depth, hashes)| {
+            V::small().iter().flat_map(move |&value| {
                 let hashes = hashes.clone();
-                V::small().iter().flat_map(move |&value| {
-                    let hashes = hashes.clone();
-                    settings.map(move |(m, t)| Self::in_two(depth, m, t, &hashes, cut, value))
+                settings.map(move |(m, t)| List {
+                    values: vec![value; hashes.len()],
+                    hashes: hashes.clone(),
+                    depth,
+                    depth_threshold: m,
+                    chi2_threshold: Float(t),
                 })
             })
         })
     }
 
-    fn in_two(depth: u8, m: u8, t: f64, hashes: &[u64], cut: usize, value: V) -> Self {
-        let call = |hashes: &[u64]| Call {
-            faults: vec![],
-            exactly_full: false,
-            hashes: hashes.to_vec(),
-            batch: vec![value; hashes.len()],
-        };
-        Input {
-            calls: vec![call(&hashes[..cut]), call(&hashes[cut..])],
-            depth,
-            depth_threshold: m,
-            chi2_threshold: Float(t),
-            places: hashes.len() + 1,
-            content: u64::MAX,
-        }
-    }
-
-    pub fn random(random: &mut Random) -> Self {
-        let depth = 1 + random.below(DEPTH_MAX as u64) as u8;
+    /// Of cells of a width.
+    pub fn random<Z: Width>(random: &mut Random) -> Self {
+        let depth = 1 + random.below(Z::DEPTH_MAX as u64) as u8;
         let longest = any_of(random, &[8, 32, 100, 300]);
         let len = random.below(longest);
         let hashes = hashes(random, depth, len);
         let values = V::random(random, depth, hashes.len());
         let depth_threshold = match random.below(4) {
-            0 => random.below(30) as u8,
+            0 => random.below(DEPTH_MAX as u64 + 1) as u8,
             1 => random.below(depth as u64 + 1) as u8,
             _ => 0,
         };
-        // Enough for all but now and then, and at times for no more.
-        let places = match random.below(4) {
-            0 => hashes.len(),
-            1 => hashes.len().saturating_sub(random.below(3) as usize),
-            _ => hashes.len() + random.below(20) as usize,
-        };
-        Input {
-            calls: calls(random, &hashes, &values),
+        List {
+            chi2_threshold: Float(threshold(random, depth, &values)),
+            hashes,
+            values,
             depth,
             depth_threshold,
-            chi2_threshold: Float(threshold(random, depth, &values)),
+        }
+    }
+
+    pub fn cells<Z: Width>(&self) -> Vec<(Z, V)> {
+        let hashes = self.hashes.iter().map(|&hash| Z::of(hash));
+        hashes.zip(self.values.iter().copied()).collect()
+    }
+}
+
+impl<V: Value, Z: Width> Input<V, Z> {
+    /// The small lists, cut at every point.
+    pub(super) fn small() -> impl Iterator<Item = Self> {
+        List::small().flat_map(|list| {
+            let cuts = 0..=list.hashes.len();
+            cuts.map(move |cut| Self::in_two(&list, cut))
+        })
+    }
+
+    fn in_two(list: &List<V>, cut: usize) -> Self {
+        let call = |cells: &[(Z, V)]| {
+            let (hashes, batch) = cells.iter().copied().unzip();
+            Call {
+                faults: vec![],
+                exactly_full: false,
+                hashes,
+                batch,
+            }
+        };
+        let cells = list.cells();
+        let (first, second) = cells.split_at(cut);
+        Input {
+            calls: vec![call(first), call(second)],
+            depth: list.depth,
+            depth_threshold: list.depth_threshold,
+            chi2_threshold: list.chi2_threshold,
+            places: cells.len() + 1,
+            content: u64::MAX,
+        }
+    }
+
+    pub fn random(random: &mut Random) -> Self {
+        let list = List::random::<Z>(random);
+        let cells = list.cells();
+        // Enough for all but now and then, and at times for no more.
+        let places = match random.below(4) {
+            0 => cells.len(),
+            1 => cells.len().saturating_sub(random.below(3) as usize),
+            _ => cells.len() + random.below(20) as usize,
+        };
+        let base = Cell { depth: 0, hash: 0 }.zuniq::<Z>().bits();
+        Input {
+            calls: calls(random, &cells),
+            depth: list.depth,
+            depth_threshold: list.depth_threshold,
+            chi2_threshold: list.chi2_threshold,
             places,
-            content: [0, 1, 1 << 58, random.bits()][random.below(4) as usize],
+            content: [0, 1, base, random.bits()][random.below(4) as usize],
         }
     }
 }
@@ -198,25 +249,26 @@ fn hashes(random: &mut Random, depth: u8, len: u64) -> Vec<u64> {
 }
 
 /// The cells cut into batches, with faulty calls before each.
-fn calls<V: Value>(random: &mut Random, hashes: &[u64], values: &[V]) -> Vec<Call<V>> {
+fn calls<V: Value, Z: Width>(random: &mut Random, cells: &[(Z, V)]) -> Vec<Call<V, Z>> {
     let mut calls = Vec::new();
     let mut done = 0;
     loop {
-        let left = hashes.len() - done;
+        let left = cells.len() - done;
         let next = match random.below(4) {
             0 => left,
             1 => left.min(random.below(4) as usize),
             _ => random.below(left as u64 + 1) as usize,
         };
+        let (hashes, batch) = cells[done..done + next].iter().copied().unzip();
         let call = Call {
             faults: vec![],
             exactly_full: random.below(4) == 0,
-            hashes: hashes[done..done + next].to_vec(),
-            batch: values[done..done + next].to_vec(),
+            hashes,
+            batch,
         };
         for _ in 0..random.below(3) {
             let faults = 1 + random.below(5) / 4;
-            let faults = (0..faults).map(|_| Fault::random(random)).collect();
+            let faults = (0..faults).map(|_| Fault::random::<Z>(random)).collect();
             calls.push(Call {
                 faults,
                 ..call.clone()
@@ -224,7 +276,7 @@ fn calls<V: Value>(random: &mut Random, hashes: &[u64], values: &[V]) -> Vec<Cal
         }
         done += next;
         calls.push(call);
-        if done == hashes.len() {
+        if done == cells.len() {
             return calls;
         }
     }

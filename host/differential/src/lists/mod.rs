@@ -10,14 +10,13 @@ use std::{fmt::Debug, marker::PhantomData};
 
 use mom::Refusal;
 
-use crate::{compare::Kind, random::Random};
+use crate::{compare::Kind, random::Random, widths::Width};
 
-pub use draw::{stretch, Input};
+pub use draw::{stretch, Input, List};
 pub use replay::replay;
 
 /// What a map holds for each entry: counts (u32) or densities ([`Float`](crate::floats::Float)).
 pub trait Value: Copy + Debug + Ord + Send + 'static {
-    const NAME: &'static str;
     /// What stands in every place after the entries.
     const ZERO: Self;
     /// What no chi is far below.
@@ -46,26 +45,31 @@ pub trait Value: Copy + Debug + Ord + Send + 'static {
     /// Values of cells of a depth, in stretches that merge.
     fn random(random: &mut Random, depth: u8, len: usize) -> Vec<Self>;
 
+    fn total<C>(cells: &[(C, Self)]) -> Self::Total;
+}
+
+/// What is added to maps of a width.
+pub trait Build<Z: Width>: Value {
+    const NAME: &'static str;
+
     /// Our call.
-    fn add(call: Arguments<Self>) -> Answer<Self>;
+    fn add(call: Arguments<Self, Z>) -> Answer<Self>;
 
     /// What the original builds from cells of a depth.
-    fn build(depth: u8, m: u8, t: f64, cells: &[(u64, Self)]) -> Vec<(u64, Self)>;
-
-    fn total(cells: &[(u64, Self)]) -> Self::Total;
+    fn build(depth: u8, m: u8, t: f64, cells: &[(Z, Self)]) -> Vec<(Z, Self)>;
 }
 
 /// All arguments of one call.
-pub struct Arguments<'a, V> {
+pub struct Arguments<'a, V, Z = u64> {
     pub depth: u8,
     /// M
     pub depth_threshold: u8,
     /// T
     pub chi2_threshold: f64,
     pub held: usize,
-    pub zuniqs: &'a mut [u64],
+    pub zuniqs: &'a mut [Z],
     pub values: &'a mut [V],
-    pub hashes: &'a [u64],
+    pub hashes: &'a [Z],
     pub batch: &'a [V],
 }
 
@@ -73,29 +77,29 @@ pub struct Arguments<'a, V> {
 pub type Answer<V> = Result<(usize, <V as Value>::Total), Refusal>;
 
 /// An answer, and the buffers after it.
-pub type Step<V> = (Answer<V>, Vec<u64>, Vec<V>);
+pub type Step<V, Z = u64> = (Answer<V>, Vec<Z>, Vec<V>);
 
 /// The comparison of lists of add calls.
-pub struct Add<V>(PhantomData<V>);
+pub struct Add<V, Z = u64>(PhantomData<(V, Z)>);
 
-impl<V: Value> Kind for Add<V> {
+impl<V: Build<Z>, Z: Width> Kind for Add<V, Z> {
     const NAME: &'static str = V::NAME;
-    type Input = Input<V>;
-    type Answer = Vec<Step<V>>;
+    type Input = Input<V, Z>;
+    type Answer = Vec<Step<V, Z>>;
 
-    fn small() -> impl Iterator<Item = Input<V>> {
+    fn small() -> impl Iterator<Item = Input<V, Z>> {
         Input::small()
     }
 
-    fn random(random: &mut Random) -> Option<Input<V>> {
+    fn random(random: &mut Random) -> Option<Input<V, Z>> {
         Some(Input::random(random))
     }
 
-    fn ours(input: &Input<V>) -> Vec<Step<V>> {
+    fn ours(input: &Input<V, Z>) -> Vec<Step<V, Z>> {
         replay(input, |call, _| V::add(call))
     }
 
-    fn original(input: &Input<V>) -> Vec<Step<V>> {
+    fn original(input: &Input<V, Z>) -> Vec<Step<V, Z>> {
         let mut joined = Vec::new();
         replay(input, |call, refusal| {
             if let Some(refusal) = refusal {
@@ -104,7 +108,7 @@ impl<V: Value> Kind for Add<V> {
             joined.extend(call.hashes.iter().copied().zip(call.batch.iter().copied()));
             let (m, t) = (call.depth_threshold, call.chi2_threshold);
             let entries = V::build(call.depth, m, t, &joined);
-            call.zuniqs.fill(0);
+            call.zuniqs.fill(Z::of(0));
             call.values.fill(V::ZERO);
             for (place, &(zuniq, value)) in entries.iter().enumerate() {
                 call.zuniqs[place] = zuniq;

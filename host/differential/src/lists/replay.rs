@@ -7,30 +7,33 @@ use super::{
     table::end_of,
     Answer, Arguments, Input, Step, Value,
 };
-use crate::cells::{n_hash, Cell, DEPTH_MAX};
+use crate::{
+    cells::{n_hash, Cell},
+    widths::Width,
+};
 
 /// The buffers and the number held, as a caller keeps them.
 #[derive(Clone)]
-struct Buffers<V> {
-    zuniqs: Vec<u64>,
+struct Buffers<V, Z> {
+    zuniqs: Vec<Z>,
     values: Vec<V>,
     held: usize,
 }
 
 /// One call with all that it is lent, faults in it included.
-struct Lent<V> {
+struct Lent<V, Z> {
     depth: u8,
     m: u8,
     t: f64,
     held: usize,
     /// How much of each buffer is lent.
     places: [usize; 2],
-    buffers: Buffers<V>,
-    call: Call<V>,
+    buffers: Buffers<V, Z>,
+    call: Call<V, Z>,
 }
 
-impl<V: Value> Lent<V> {
-    fn new(input: &Input<V>, kept: &Buffers<V>, call: &Call<V>) -> Self {
+impl<V: Value, Z: Width> Lent<V, Z> {
+    fn new(input: &Input<V, Z>, kept: &Buffers<V, Z>, call: &Call<V, Z>) -> Self {
         let full = kept.held + call.hashes.len();
         let exactly = call.exactly_full && full <= input.places;
         let mut lent = Lent {
@@ -48,7 +51,7 @@ impl<V: Value> Lent<V> {
         lent
     }
 
-    fn change(&mut self, input: &Input<V>, kept: &Buffers<V>, fault: Fault<V>) {
+    fn change(&mut self, input: &Input<V, Z>, kept: &Buffers<V, Z>, fault: Fault<V>) {
         let (buffers, call) = (&mut self.buffers, &mut self.call);
         let (held, cells) = (kept.held, call.hashes.len());
         match fault {
@@ -64,8 +67,8 @@ impl<V: Value> Lent<V> {
             Fault::OnePlaceShort => {
                 self.places = [(held + cells).saturating_sub(1).min(input.places); 2];
             }
-            Fault::EntryNone(place) if held > 0 => buffers.zuniqs[place % held] = 2,
-            Fault::EntryTooDeep(place) if held > 0 && input.depth < DEPTH_MAX => {
+            Fault::EntryNone(place) if held > 0 => buffers.zuniqs[place % held] = Z::of(2),
+            Fault::EntryTooDeep(place) if held > 0 && input.depth < Z::DEPTH_MAX => {
                 let cell = Cell::of_zuniq(kept.zuniqs[place % held]).unwrap();
                 buffers.zuniqs[place % held] = cell.descendant(input.depth + 1, 0).zuniq();
             }
@@ -75,12 +78,12 @@ impl<V: Value> Lent<V> {
             }
             Fault::HeldValue(place, value) if held > 0 => buffers.values[place % held] = value,
             Fault::HashPast(place, by) if cells > 0 => {
-                call.hashes[place % cells] = n_hash(input.depth) + by;
+                call.hashes[place % cells] = Z::of(n_hash(input.depth) + by);
             }
             Fault::HashNotAbove(place) if cells > 0 => {
                 let end = end_of(&kept.zuniqs[..held], input.depth);
                 call.hashes[place % cells] = match place % cells {
-                    0 => end.saturating_sub(1),
+                    0 => Z::of(end.saturating_sub(1)),
                     place => call.hashes[place - 1],
                 };
             }
@@ -92,7 +95,7 @@ impl<V: Value> Lent<V> {
         }
     }
 
-    fn arguments(&mut self) -> Arguments<'_, V> {
+    fn arguments(&mut self) -> Arguments<'_, V, Z> {
         let [of_zuniqs, of_values] = self.places;
         Arguments {
             depth: self.depth,
@@ -109,12 +112,12 @@ impl<V: Value> Lent<V> {
 
 /// Makes the calls of a list through `add`, with both buffers after each. `add` is told what the
 /// table refuses. A faulty call that the table doesn't refuse is left out.
-pub fn replay<V: Value>(
-    input: &Input<V>,
-    mut add: impl FnMut(Arguments<V>, Option<Refusal>) -> Answer<V>,
-) -> Vec<Step<V>> {
+pub fn replay<V: Value, Z: Width>(
+    input: &Input<V, Z>,
+    mut add: impl FnMut(Arguments<V, Z>, Option<Refusal>) -> Answer<V>,
+) -> Vec<Step<V, Z>> {
     let mut buffers = Buffers {
-        zuniqs: vec![input.content; input.places],
+        zuniqs: vec![Z::of(input.content); input.places],
         values: vec![V::of_content(input.content); input.places],
         held: 0,
     };

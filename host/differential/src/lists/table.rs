@@ -3,17 +3,21 @@
 use mom::Refusal;
 
 use super::{Arguments, Value};
-use crate::cells::{n_hash, Cell, DEPTH_MAX};
+use crate::{
+    cells::{n_hash, Cell, DEPTH_MAX},
+    maps::faulty_entry,
+    widths::Width,
+};
 
 /// The hash of the first cell at `depth` after the last of some entries.
-pub fn end_of(held: &[u64], depth: u8) -> u64 {
+pub fn end_of<Z: Width>(held: &[Z], depth: u8) -> u64 {
     held.last().map_or(0, |&last| {
         let cell = Cell::of_zuniq(last).unwrap();
         (cell.hash + 1) << (2 * (depth - cell.depth))
     })
 }
 
-impl<V: Value> Arguments<'_, V> {
+impl<V: Value, Z: Width> Arguments<'_, V, Z> {
     /// What the table says of the call, in its order.
     pub fn refusal(&self) -> Option<Refusal> {
         let (number, place) = self.refused_setting().or_else(|| {
@@ -26,12 +30,12 @@ impl<V: Value> Arguments<'_, V> {
         Some(Refusal::of(number, place).unwrap())
     }
 
-    /// Rows 1 to 4.
+    /// Rows 1 to 4. M is at most 29 for narrow maps too.
     fn refused_setting(&self) -> Option<(u8, usize)> {
         let places = self.zuniqs.len();
         let lengths_differ = places != self.values.len() || self.hashes.len() != self.batch.len();
         let rows = [
-            (1, self.depth > DEPTH_MAX),
+            (1, self.depth > Z::DEPTH_MAX),
             (2, self.depth_threshold > DEPTH_MAX),
             (3, self.chi2_threshold.is_nan()),
             (4, lengths_differ || self.held > places),
@@ -42,29 +46,17 @@ impl<V: Value> Arguments<'_, V> {
 
     /// Rows 5 and 6.
     fn refused_entry(&self) -> Option<(u8, usize)> {
-        let faulty = (0..self.held).find(|&place| !self.is_sound(place));
+        let faulty = faulty_entry(self.depth, &self.zuniqs[..self.held]);
         let invalid = || self.values[..self.held].iter().position(|v| v.is_invalid());
         let faulty = faulty.map(|place| (5, place));
         faulty.or_else(|| invalid().map(|place| (6, place)))
     }
 
-    /// Whether an entry is valid and above all of the one before it.
-    fn is_sound(&self, place: usize) -> bool {
-        let Some(cell) = Cell::of_zuniq(self.zuniqs[place]) else {
-            return false;
-        };
-        let before = self.zuniqs[..place].last().copied();
-        cell.depth <= self.depth
-            && before.is_none_or(|before| {
-                let overlaps = Cell::of_zuniq(before).is_some_and(|before| before.overlaps(cell));
-                before < self.zuniqs[place] && !overlaps
-            })
-    }
-
     /// Rows 7, 8 and 9.
     fn refused_cell(&self) -> Option<(u8, usize)> {
         let mut least = end_of(&self.zuniqs[..self.held], self.depth);
-        for (place, (&hash, value)) in self.hashes.iter().zip(self.batch).enumerate() {
+        for (place, (hash, value)) in self.hashes.iter().zip(self.batch).enumerate() {
+            let hash = hash.bits();
             if hash >= n_hash(self.depth) {
                 return Some((7, place));
             }

@@ -4,18 +4,11 @@ use super::{Combine, Given, Input};
 use crate::{
     cells::{n_hash, Cell, DEPTH_MAX},
     floats::{near, Float},
+    lists::Value,
     maps::Map,
     random::{any_of, Random},
+    widths::Width,
 };
-
-fn given<V: Combine>(depth: u8, cells: &[Cell], values: Vec<V>) -> Given<V> {
-    let zuniqs = cells.iter().map(|cell| cell.zuniq()).collect();
-    Given {
-        depth,
-        zuniqs,
-        values,
-    }
-}
 
 impl<V: Combine> Input<V> {
     /// All pairs of maps in the first base cell down to depth 1; and an entry of any depth in one of
@@ -107,8 +100,17 @@ impl<V: Combine> Input<V> {
     }
 }
 
-impl<V: Combine> Given<V> {
-    fn change(&mut self, random: &mut Random) {
+impl<V: Value, Z: Width> Given<V, Z> {
+    pub fn new(depth: u8, cells: &[Cell], values: Vec<V>) -> Self {
+        Given {
+            depth,
+            zuniqs: cells.iter().map(|cell| cell.zuniq()).collect(),
+            values,
+        }
+    }
+
+    /// Makes a change by which the map is invalid, or may be.
+    pub fn change(&mut self, random: &mut Random) {
         let len = self.zuniqs.len().min(self.values.len()) as u64;
         if len == 0 {
             self.values.push(V::ZERO);
@@ -119,12 +121,15 @@ impl<V: Combine> Given<V> {
         match random.below(8) {
             0 => drop(self.zuniqs.pop()),
             1 => drop(self.values.pop()),
-            2 => self.zuniqs[place] = any_of(random, &[0, 2, 1 << 60, u64::MAX]),
+            2 => {
+                let none = [0, 2, 1 << (2 * Z::DEPTH_MAX + 2), u64::MAX];
+                self.zuniqs[place] = Z::of(any_of(random, &none));
+            }
             3 => self.zuniqs[place] = before,
             // Larger ones overlap, deeper ones are too deep.
             4 | 5 => {
-                let near = Cell::of_zuniq(self.zuniqs[place]).unwrap_or(Cell::random(random));
-                self.zuniqs[place] = near.relative(random).zuniq();
+                let near = Cell::of_zuniq(self.zuniqs[place]).unwrap_or(Cell::random::<Z>(random));
+                self.zuniqs[place] = near.relative::<Z>(random).zuniq();
             }
             6 => self.depth = random.below(self.depth as u64 + 1) as u8,
             _ => self.values[place] = any_of(random, V::faulty()),
@@ -137,13 +142,13 @@ fn in_a_base_cell<V: Combine>() -> Vec<Given<V>> {
     let base = Cell { depth: 0, hash: 0 };
     let few = V::few();
     let ways = few.len() + 1;
-    let whole = few.iter().map(|&value| given(0, &[base], vec![value]));
+    let whole = few.iter().map(|&value| Given::new(0, &[base], vec![value]));
     let parts = (0..ways.pow(4)).map(|way| {
         let digits = (0..4).map(|child| way / ways.pow(child) % ways);
         let chosen = base.children().into_iter().zip(digits);
         let chosen = chosen.filter_map(|(cell, digit)| Some((cell, *few.get(digit)?)));
         let (cells, values): (Vec<Cell>, Vec<V>) = chosen.unzip();
-        given(1, &cells, values)
+        Given::new(1, &cells, values)
     });
     whole.chain(parts).collect()
 }
@@ -157,7 +162,7 @@ fn nested<V: Combine>() -> impl Iterator<Item = Input<V>> {
             let over = Cell { depth: 0, hash }.descendant(top, path);
             let under = over.descendant(bottom, path);
             V::few().iter().flat_map(move |&value| {
-                let map = |cell: Cell| given(cell.depth, &[cell], vec![value]);
+                let map = |cell: Cell| Given::new(cell.depth, &[cell], vec![value]);
                 let inputs = [f64::NEG_INFINITY, f64::INFINITY];
                 inputs.map(|t| Input::new(map(over), map(under), 0, t).with_places())
             })
@@ -174,9 +179,9 @@ fn map<V: Combine>(random: &mut Random, cells: &[Cell], even: bool) -> Given<V> 
     };
     let values = match even {
         true => V::even(random, cells),
-        false => <V as crate::lists::Value>::random(random, deepest.max(1), cells.len()),
+        false => <V as Value>::random(random, deepest.max(1), cells.len()),
     };
-    given(depth, cells, values)
+    Given::new(depth, cells, values)
 }
 
 /// The cells of two maps: of one kind each, or made from each other.
@@ -192,7 +197,7 @@ fn cells(random: &mut Random) -> [Vec<Cell>; 2] {
         2 => spread(random),
         3 => one.iter().map(|cell| cell.ancestor(0)).collect(),
         4 | 5 => {
-            let near = one.iter().map(|cell| cell.relative(random));
+            let near = one.iter().map(|cell| cell.relative::<u64>(random));
             near.collect()
         }
         _ => dealt(random, &mut one),
@@ -223,7 +228,7 @@ fn dealt(random: &mut Random, one: &mut Vec<Cell>) -> Vec<Cell> {
 
 /// As a map has them: rising, without those that overlap the one before.
 fn apart(cells: &mut Vec<Cell>) {
-    cells.sort_by_key(|cell| cell.zuniq());
+    cells.sort_by_key(|cell| cell.zuniq::<u64>());
     let mut last: Option<Cell> = None;
     cells.retain(|&cell| {
         let is_apart = last.is_none_or(|last| !last.overlaps(cell));
@@ -245,7 +250,7 @@ fn depth(random: &mut Random) -> u8 {
 
 fn spread(random: &mut Random) -> Vec<Cell> {
     let depth = depth(random);
-    Map::random(depth, random).cells().to_vec()
+    Map::random::<u64>(depth, random).cells().to_vec()
 }
 
 /// A cell, and the siblings of all that it lies in, up to some depth: all of them, or some.

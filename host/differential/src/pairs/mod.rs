@@ -14,6 +14,7 @@ use crate::{
     floats::Float,
     lists::{Answer, Step, Value},
     random::Random,
+    widths::Width,
 };
 
 pub use overlay::{overlay, Seen};
@@ -57,14 +58,14 @@ pub trait Call: Combine {
 
 /// A map as it is given to a call, valid or not.
 #[derive(Clone, PartialEq, Eq, PartialOrd, Ord)]
-pub struct Given<V> {
+pub struct Given<V, Z = u64> {
     pub depth: u8,
-    pub zuniqs: Vec<u64>,
+    pub zuniqs: Vec<Z>,
     pub values: Vec<V>,
 }
 
 /// The zuniqs as cells, where they are.
-impl<V: fmt::Debug> fmt::Debug for Given<V> {
+impl<V: fmt::Debug, Z: Width> fmt::Debug for Given<V, Z> {
     fn fmt(&self, f: &mut fmt::Formatter<'_>) -> fmt::Result {
         write!(f, "D = {}, [", self.depth)?;
         for &zuniq in &self.zuniqs {

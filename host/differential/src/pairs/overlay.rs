@@ -38,7 +38,7 @@ impl<'a, V: Copy> Side<'a, V> {
     /// No entry is larger than the cell.
     fn of(cell: Cell, entries: &'a [(Cell, V)]) -> Self {
         let width = 2 << (2 * (DEPTH_MAX - cell.depth));
-        let from = |zuniq| entries.partition_point(|(cell, _)| cell.zuniq() < zuniq);
+        let from = |zuniq: u64| entries.partition_point(|(cell, _)| cell.zuniq::<u64>() < zuniq);
         match &entries[from(cell.hash * width)..from((cell.hash + 1) * width)] {
             &[(entry, value)] if entry == cell => Side::Over(value),
             entries => Side::Under(entries),

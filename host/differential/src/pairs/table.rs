@@ -3,7 +3,10 @@
 use mom::Refusal;
 
 use super::{overlay, Combine, Given, Input};
-use crate::cells::{Cell, DEPTH_MAX};
+use crate::{
+    cells::{Cell, DEPTH_MAX},
+    maps::faulty_entry,
+};
 
 impl<V: Combine> Given<V> {
     /// The entries of a valid map.
@@ -11,23 +14,6 @@ impl<V: Combine> Given<V> {
         let cells = self.zuniqs.iter().map(|&zuniq| Cell::of_zuniq(zuniq));
         let cells = cells.map(|cell| cell.expect("a valid map"));
         cells.zip(self.values.iter().copied()).collect()
-    }
-
-    /// Row 5: the first entry that isn't valid and above all of the one before it.
-    fn faulty_entry(&self) -> Option<usize> {
-        (0..self.zuniqs.len()).find(|&place| !self.is_sound(place))
-    }
-
-    fn is_sound(&self, place: usize) -> bool {
-        let Some(cell) = Cell::of_zuniq(self.zuniqs[place]) else {
-            return false;
-        };
-        let before = self.zuniqs[..place].last().copied();
-        cell.depth <= self.depth
-            && before.is_none_or(|before| {
-                let overlaps = Cell::of_zuniq(before).is_some_and(|before| before.overlaps(cell));
-                before < self.zuniqs[place] && !overlaps
-            })
     }
 }
 
@@ -70,7 +56,9 @@ impl<V: Combine> Input<V> {
     /// Rows 5 and 6, in each the left map before the right one.
     fn refused_entry(&self) -> Option<(u8, usize)> {
         let maps = [&self.left, &self.right];
-        let faulty = maps.iter().find_map(|map| map.faulty_entry());
+        let faulty = maps
+            .iter()
+            .find_map(|map| faulty_entry(map.depth, &map.zuniqs));
         let invalid = |map: &Given<V>| map.values.iter().position(|value| value.is_invalid());
         let faulty = faulty.map(|place| (5, place));
         faulty.or_else(|| {

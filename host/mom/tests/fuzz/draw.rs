@@ -2,36 +2,43 @@
 
 use std::ops::Range;
 
+use super::plain::{cell_of, overlap_test, Zuniq};
+
 pub struct Draw(u64);
 
 /// The arguments of an add call but for the values, of which only the numbers are drawn.
 #[derive(Clone, Debug)]
-pub struct AddCall {
+pub struct AddCall<Z> {
     pub depth: u8,
     pub m: u8,
     pub t: f64,
     pub held: usize,
-    pub zuniqs: Vec<u64>,
+    pub zuniqs: Vec<Z>,
     pub values: usize,
-    pub hashes: Vec<u64>,
+    pub hashes: Vec<Z>,
     pub batch: usize,
 }
 
-/// A map of a combining call but for its values, of which only the number is drawn.
+/// A map of a combining or moving call but for its values, of which only the number is drawn.
 #[derive(Clone, Debug)]
-pub struct Side {
+pub struct Side<Z> {
     pub depth: u8,
-    pub zuniqs: Vec<u64>,
+    pub zuniqs: Vec<Z>,
     pub values: usize,
 }
 
 /// The arguments of a combining call but for the values and the output.
 #[derive(Clone, Debug)]
 pub struct CombineCall {
-    pub sides: [Side; 2],
+    pub sides: [Side<u64>; 2],
     pub m: u8,
     pub t: f64,
     pub k: f64,
+}
+
+/// (2h + 1) × 4^(K − d), K being the largest depth.
+fn zuniq_of<Z: Zuniq>(depth: u8, hash: u64) -> Z {
+    Z::of((2 * hash + 1) << (2 * (Z::MAX_DEPTH - depth)))
 }
 
 impl Draw {
@@ -55,22 +62,31 @@ impl Draw {
     }
 
     /// Few bits as often as many.
-    fn few_bits(&mut self) -> u64 {
-        let shift = self.below(64);
-        self.bits() >> shift
+    fn few_bits<Z: Zuniq>(&mut self) -> Z {
+        let bits = 8 * Z::SIZE;
+        let shift = self.below(bits);
+        Z::of(self.bits() >> (64 - bits) >> shift)
     }
 
-    /// Mostly 0 to 29, and small, so that cells meet.
-    pub fn depth(&mut self) -> u8 {
+    /// Mostly 0 to 29, or 13 for a narrow map, and small, so that cells meet.
+    pub fn depth<Z: Zuniq>(&mut self) -> u8 {
         match self.below(16) {
             0 => self.bits() as u8,
-            1 => 28 + self.below(4) as u8,
-            2..=7 => self.below(30) as u8,
+            1 => Z::MAX_DEPTH - 1 + self.below(4) as u8,
+            2..=7 => self.below(Z::MAX_DEPTH as usize + 1) as u8,
             _ => self.below(3) as u8,
         }
     }
 
-    pub fn hash(&mut self) -> u64 {
+    /// Mostly 0 to 29, for narrow maps too.
+    fn depth_threshold(&mut self) -> u8 {
+        if self.one_in(2) {
+            return 0;
+        }
+        self.depth::<u64>()
+    }
+
+    pub fn hash<Z: Zuniq>(&mut self) -> Z {
         self.few_bits()
     }
 
@@ -100,24 +116,23 @@ impl Draw {
     }
 
     /// Mostly that of a cell near the others.
-    pub fn zuniq(&mut self) -> u64 {
+    pub fn zuniq<Z: Zuniq>(&mut self) -> Z {
         let depth = if self.one_in(4) {
-            self.below(30)
+            self.below(Z::MAX_DEPTH as usize + 1)
         } else {
             self.below(3)
         };
         let n = 12 << (2 * depth);
         let few = if self.one_in(4) { n } else { n.min(8) };
-        let hash = self.below(few) as u64;
-        let zuniq = (2 * hash + 1) << (2 * (29 - depth));
+        let zuniq: Z = zuniq_of(depth as u8, self.below(few) as u64);
         match self.below(16) {
             0 => self.few_bits(),
-            1 => zuniq ^ 1 << self.below(64),
+            1 => Z::of(zuniq.number() ^ 1 << self.below(8 * Z::SIZE)),
             _ => zuniq,
         }
     }
 
-    pub fn zuniqs(&mut self) -> Vec<u64> {
+    pub fn zuniqs<Z: Zuniq>(&mut self) -> Vec<Z> {
         (0..self.below(12)).map(|_| self.zuniq()).collect()
     }
 
@@ -126,8 +141,12 @@ impl Draw {
         self.counts_of(number)
     }
 
+    /// Mostly all of them small, so that their total is a u32.
     pub fn counts_of(&mut self, number: usize) -> Vec<u32> {
-        (0..number).map(|_| self.count()).collect()
+        if self.one_in(4) {
+            return (0..number).map(|_| self.count()).collect();
+        }
+        (0..number).map(|_| self.below(6) as u32).collect()
     }
 
     pub fn densities_of(&mut self, number: usize) -> Vec<f64> {
@@ -135,36 +154,35 @@ impl Draw {
     }
 
     /// Mostly rising, and half of them without entries that overlap their predecessor.
-    pub fn map(&mut self) -> Vec<u64> {
+    pub fn map<Z: Zuniq>(&mut self) -> Vec<Z> {
         let mut map = self.zuniqs();
         if !self.one_in(4) {
             map.sort();
         }
         if self.one_in(2) {
-            map.retain(|&z| super::plain::cell_of(z).is_some());
-            map.dedup_by(|z, before| super::plain::overlap_test(*z, *before) != Ok(false));
+            map.retain(|&z| cell_of(z).is_some());
+            map.dedup_by(|z, before| overlap_test(*z, *before) != Ok(false));
         }
         map
     }
 
-    /// Any bytes, of a length that mostly is that of some rows.
-    pub fn bytes(&mut self) -> Vec<u8> {
+    /// Any bytes, of a length that mostly is that of some rows of one of these sizes.
+    pub fn bytes(&mut self, sizes: &[usize]) -> Vec<u8> {
         let length = match self.below(4) {
             0 => self.below(80),
-            1 => 16 * self.below(8),
-            _ => 12 * self.below(8),
+            _ => sizes[self.below(sizes.len())] * self.below(8),
         };
         (0..length).map(|_| self.bits() as u8).collect()
     }
 
     /// Count rows, now and then with a byte less or too many of them.
-    pub fn rows(&mut self) -> Vec<u8> {
+    pub fn rows<Z: Zuniq>(&mut self) -> Vec<u8> {
         if self.one_in(64) {
-            return vec![0; 12 * (4095 + self.below(4))];
+            return vec![0; (Z::SIZE + 4) * (4095 + self.below(4))];
         }
         let mut bytes = Vec::new();
-        for zuniq in self.map() {
-            bytes.extend(zuniq.to_le_bytes());
+        for zuniq in self.map::<Z>() {
+            bytes.extend(zuniq.to_bytes());
             bytes.extend(self.count().to_le_bytes());
         }
         if self.one_in(8) {
@@ -181,29 +199,34 @@ impl Draw {
     }
 
     /// A map, mostly of few entries, and a hash that may stand behind it.
-    fn held_map(&mut self, depth: u8) -> (Vec<u64>, u64) {
+    fn held_map<Z: Zuniq>(&mut self, depth: u8) -> (Vec<Z>, u64) {
         let mut map = self.map();
         if !self.one_in(4) {
             map.truncate(self.below(2));
         }
-        let n = 12u64 << (2 * depth.min(29));
-        (map, self.below(n.min(64) as usize) as u64)
+        let deepest = depth.min(Z::MAX_DEPTH);
+        let last = map.last().and_then(|&z| cell_of(z));
+        let from = match last.filter(|&(d, _)| d <= deepest) {
+            Some((d, h)) if self.one_in(2) => (h + 1) << (2 * (deepest - d)),
+            _ => self.below((12 << (2 * deepest)).min(64)) as u64,
+        };
+        (map, from)
     }
 
     /// The first base cells, now and then one left out, and the hash behind them: often as many that the
     /// next one would complete four, or that the next four look like siblings.
-    fn base_cells(&mut self) -> (Vec<u64>, u64) {
+    fn base_cells<Z: Zuniq>(&mut self) -> (Vec<Z>, u64) {
         let end = match self.below(2) {
             0 => [0, 3, 4, 7, 8, 11][self.below(6)],
             _ => self.below(13) as u64,
         };
-        let cells = (0..end).filter(|_| !self.one_in(16));
-        (cells.map(|hash| (2 * hash + 1) << 58).collect(), end)
+        let cells = (0..end).filter(|_| !self.one_in(32));
+        (cells.map(|hash| zuniq_of(0, hash)).collect(), end)
     }
 
     /// A map of cells of one depth and above it, and cells behind it; some of it wrong.
-    pub fn add_call(&mut self) -> AddCall {
-        let depth = self.depth();
+    pub fn add_call<Z: Zuniq>(&mut self) -> AddCall<Z> {
+        let depth = self.depth::<Z>();
         let (mut zuniqs, from) = match depth {
             0 if !self.one_in(4) => self.base_cells(),
             _ => self.held_map(depth),
@@ -212,20 +235,25 @@ impl Draw {
             0 => self.below(14),
             _ => zuniqs.len(),
         };
-        let mut hashes: Vec<u64> = (0..self.below(20) as u64).map(|i| from + i).collect();
-        if self.one_in(4) {
-            let last = hashes.len();
-            hashes.extend((last..last + 1).map(|_| self.few_bits()));
+        // Of base cells at most one too many.
+        let number = match depth {
+            0 => self.below(14 - from as usize),
+            _ => self.below(20),
+        };
+        let behind = (from..from + number as u64).map(Z::of);
+        let mut hashes: Vec<Z> = behind.collect();
+        if self.one_in(8) {
+            hashes.push(self.few_bits());
         }
         let free = match self.below(8) {
             0 => self.below(24),
             _ => hashes.len() + self.below(3),
         };
-        zuniqs.extend((0..free).map(|_| 77));
+        zuniqs.extend((0..free).map(|_| Z::of(77)));
         let differ = |wrong: bool, n: usize| if wrong { n + 1 } else { n };
         AddCall {
             depth,
-            m: if self.one_in(2) { 0 } else { self.depth() },
+            m: self.depth_threshold(),
             t: self.float(),
             held: if self.one_in(8) {
                 held
@@ -238,24 +266,29 @@ impl Draw {
             hashes,
         }
     }
+
     /// Entries in a cell and maybe below it: round the cells of one way down to `end`, and now and
     /// then elsewhere. The way is the hash of its cell at depth 29.
-    fn cover(&mut self, (d, h): (u8, u64), way: u64, end: u8, deepest: u8, map: &mut Vec<u64>) {
+    fn cover<Z: Zuniq>(
+        &mut self,
+        (d, h): (u8, u64),
+        way: u64,
+        end: u8,
+        deepest: u8,
+        map: &mut Vec<Z>,
+    ) {
         let on_way = d < end && way >> (2 * (29 - d)) == h;
         if on_way || d < deepest && self.one_in(8) {
             for child in 0..4 {
                 self.cover((d + 1, 4 * h + child), way, end, deepest, map);
             }
         } else if !self.one_in(4) {
-            map.push((2 * h + 1) << (2 * (29 - d)));
+            map.push(zuniq_of(d, h));
         }
     }
 
     /// A map round the way, now and then with something wrong in it.
-    fn side(&mut self, way: u64) -> Side {
-        let depth = self.depth();
-        let deepest = depth.min(29);
-        let end = self.below(deepest as usize + 1) as u8;
+    fn side<Z: Zuniq>(&mut self, depth: u8, way: u64, end: u8, deepest: u8) -> Side<Z> {
         let mut zuniqs = Vec::new();
         let all = self.one_in(4);
         for base in 0..12 {
@@ -280,15 +313,23 @@ impl Draw {
         }
     }
 
+    /// One of the two maps round a way.
+    fn combined(&mut self, way: u64) -> Side<u64> {
+        let depth = self.depth::<u64>();
+        let deepest = depth.min(29);
+        let end = self.below(deepest as usize + 1) as u8;
+        self.side(depth, way, end, deepest)
+    }
+
     /// Two maps round one way, so that entries of each lie in entries of the other.
     pub fn combine_call(&mut self) -> CombineCall {
         let way = self.below(12 << 58) as u64;
         CombineCall {
-            sides: [self.side(way), self.side(way)],
-            m: if self.one_in(2) { 0 } else { self.depth() },
+            sides: [self.combined(way), self.combined(way)],
+            m: self.depth_threshold(),
             // Split counts are large and so is their chi.
             t: if self.one_in(3) {
-                self.few_bits() as f64
+                self.few_bits::<u64>() as f64
             } else {
                 self.float()
             },
@@ -315,14 +356,39 @@ impl Draw {
         [counts, right]
     }
 
+    /// A map to be moved, mostly with entries down to a depth about 13, which is the largest of a
+    /// narrow one; now and then the last entry stands in front of others.
+    pub fn moved<Z: Zuniq>(&mut self) -> Side<Z> {
+        let depth = match self.below(4) {
+            0 => self.depth::<Z>(),
+            _ => 10 + self.below(Z::MAX_DEPTH as usize - 9) as u8,
+        };
+        let most = depth.min(Z::MAX_DEPTH);
+        let deepest = match self.below(4) {
+            0 => most,
+            _ => most.min(12 + self.below(3) as u8),
+        };
+        let end = match self.below(2) {
+            0 => self.below(deepest as usize + 1) as u8,
+            _ => deepest,
+        };
+        let way = self.below(12 << 58) as u64;
+        let mut side = self.side(depth, way, end, deepest);
+        if side.zuniqs.len() > 1 && self.one_in(8) {
+            let place = self.below(side.zuniqs.len());
+            side.zuniqs[place..].rotate_right(1);
+        }
+        side
+    }
+
     /// The zuniqs of an output and the number of its values, mostly enough for so many cells.
-    pub fn output(&mut self, cells: usize) -> (Vec<u64>, usize) {
+    pub fn output<Z: Zuniq>(&mut self, cells: usize) -> (Vec<Z>, usize) {
         let places = match self.below(16) {
             0 => self.below(cells + 1),
             1 => cells.saturating_sub(1),
             _ => cells + self.below(3),
         };
-        let zuniqs: Vec<u64> = (0..places).map(|_| self.zuniq()).collect();
+        let zuniqs: Vec<Z> = (0..places).map(|_| self.zuniq()).collect();
         (zuniqs, places + self.one_in(32) as usize)
     }
 }

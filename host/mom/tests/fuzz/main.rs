@@ -5,16 +5,20 @@
 //! Each test makes a thousand rounds, and goes on for as long as MOM_FUZZ_SECONDS says.
 
 mod draw;
+mod moving;
+mod narrow;
 mod plain;
 
 use std::{
     collections::BTreeSet,
     env,
+    ops::Range,
     time::{Duration, Instant},
 };
 
 use draw::{AddCall, Draw, Side};
 use mom::{rows, CountMerge, DensityMerge, Map, MapCheck, Refusal};
+use plain::Zuniq;
 
 /// Rounds with one seed, the same in every run; how many there are in the time is printed.
 fn rounds(name: &str, mut round: impl FnMut(&mut Draw)) {
@@ -27,6 +31,12 @@ fn rounds(name: &str, mut round: impl FnMut(&mut Draw)) {
         number += 1;
     }
     println!("fuzz of {name}: {number} rounds");
+}
+
+/// Of what random arguments should bring, in the first thousand rounds too.
+fn assert_some(name: &str, what: &str, times: usize) {
+    println!("fuzz of {name}: {what} {times} times");
+    assert!(times >= 5, "{name}: {what}");
 }
 
 fn bits(xs: &[f64]) -> Vec<u64> {
@@ -52,10 +62,10 @@ impl Met {
 #[test]
 fn cells() {
     rounds("cells", |draw| {
-        let (depth, hash) = (draw.depth(), draw.hash());
+        let (depth, hash) = (draw.depth::<u64>(), draw.hash());
         assert_eq!(mom::n_hash(depth), plain::cell_number(depth));
         assert_eq!(mom::to_zuniq(depth, hash), plain::encode(depth, hash));
-        let (l, r) = (draw.zuniq(), draw.zuniq());
+        let (l, r) = (draw.zuniq(), draw.zuniq::<u64>());
         assert_eq!(mom::from_zuniq(l), plain::cell_of(l));
         assert_eq!(mom::are_overlapping(l, r), plain::overlap_test(l, r));
         let count = draw.count();
@@ -77,7 +87,7 @@ fn mergers() {
     // A NaN chi is one however its bits are.
     let bits = |x: f64| if x.is_nan() { None } else { Some(x.to_bits()) };
     rounds("mergers", |draw| {
-        let (p, m, t) = (draw.depth(), draw.depth(), draw.float());
+        let (p, m, t) = (draw.depth::<u64>(), draw.depth::<u64>(), draw.float());
         let counts = [(); 4].map(|_| draw.count());
         let answer = mom::chi2_count_merger(p, m, t, counts).map(|merge| match merge {
             CountMerge::Merged(count) => (Some(count), None),
@@ -102,47 +112,67 @@ fn mergers() {
     });
 }
 
+type Answer<T> = Result<T, Refusal>;
+
+/// What the check, containing and overlapping answer about a map's zuniqs.
+fn assert_map<Z: Zuniq>(
+    (depth, zuniqs, query): (u8, &[Z], Z),
+    check: Answer<MapCheck>,
+    containing: Answer<Option<usize>>,
+    run: Answer<(usize, &[Z])>,
+) {
+    assert_eq!(check, plain::check(depth, zuniqs), "{depth} {zuniqs:?}");
+    plain::assert_containing(depth, zuniqs, query, containing);
+    let run = run.map(|(first, part)| {
+        assert_eq!(part, &zuniqs[first..first + part.len()]);
+        first..first + part.len()
+    });
+    plain::assert_overlapped(zuniqs, query, run);
+}
+
 #[test]
 fn maps() {
     rounds("maps", |draw| {
-        let (depth, zuniqs, query) = (draw.depth(), draw.map(), draw.zuniq());
+        let (depth, zuniqs, query) = (draw.depth::<u64>(), draw.map(), draw.zuniq());
         let check = mom::check_is_mom(depth, &zuniqs);
-        assert_eq!(check, plain::check(depth, &zuniqs), "{depth} {zuniqs:?}");
         let containing = mom::get_cell_containing(depth, &zuniqs, query);
-        plain::assert_containing(depth, &zuniqs, query, containing);
         let run = mom::get_overlapped_cells(&zuniqs, query);
-        let run = run.map(|(first, part)| {
-            assert_eq!(part, &zuniqs[first..first + part.len()]);
-            first..first + part.len()
-        });
-        plain::assert_overlapped(&zuniqs, query, run);
+        assert_map((depth, &zuniqs, query), check, containing, run);
     });
+}
+
+/// The same about a map's rows.
+fn assert_map_of_rows<Z: Zuniq>(
+    (depth, bytes, query): (u8, &[u8], Z),
+    check: Answer<MapCheck>,
+    containing: Answer<Option<usize>>,
+    run: Answer<Range<usize>>,
+) {
+    match plain::map_rows(bytes) {
+        Ok(zuniqs) => {
+            assert_eq!(check, plain::check(depth, &zuniqs));
+            plain::assert_containing(depth, &zuniqs, query, containing);
+            plain::assert_overlapped(&zuniqs, query, run);
+        }
+        Err(refusal) => {
+            let refused = plain::depth::<Z>(depth).and(Err(refusal));
+            assert_eq!(check.map(|_| ()), refused);
+            assert_eq!(containing.map(|_| ()), refused);
+            assert_eq!(run.map(|_| ()), Err(refusal));
+        }
+    }
 }
 
 #[test]
 fn maps_of_rows() {
     let mut met = Met::default();
     rounds("maps of rows", |draw| {
-        let (depth, bytes, query) = (draw.depth(), draw.rows(), draw.zuniq());
-        let zuniqs = plain::map_rows(&bytes);
-        let first = |of_map: Result<(), _>| plain::depth(depth).and(of_map);
+        let (depth, bytes, query) = (draw.depth::<u64>(), draw.rows::<u64>(), draw.zuniq());
         let check = rows::check_is_mom(depth, &bytes);
         let containing = rows::get_cell_containing(depth, &bytes, query);
         let run = rows::get_overlapped_cells(&bytes, query);
         met.add(&containing);
-        match zuniqs {
-            Ok(zuniqs) => {
-                assert_eq!(check, plain::check(depth, &zuniqs));
-                plain::assert_containing(depth, &zuniqs, query, containing);
-                plain::assert_overlapped(&zuniqs, query, run);
-            }
-            Err(refusal) => {
-                let refused = first(Err(refusal));
-                assert_eq!(check.map(|_: MapCheck| ()), refused);
-                assert_eq!(containing.map(|_| ()), refused);
-                assert_eq!(run.map(|_| ()), Err(refusal));
-            }
-        }
+        assert_map_of_rows((depth, &bytes, query), check, containing, run);
     });
     met.assert_all(&[0, 1, 4, 11, 12]);
 }
@@ -151,7 +181,7 @@ fn maps_of_rows() {
 fn reading_and_writing_rows() {
     let (mut read, mut written) = (Met::default(), Met::default());
     rounds("rows", |draw| {
-        let bytes = draw.bytes();
+        let bytes = draw.bytes(&[12, 16]);
         let (mut z, mut n, mut p) = (draw.zuniqs(), draw.counts(), draw.zuniqs());
         let (i, j, k) = (draw.part(z.len()), draw.part(n.len()), draw.part(p.len()));
 
@@ -164,7 +194,7 @@ fn reading_and_writing_rows() {
         let answer = rows::read_density_rows(&bytes, &mut z[i.clone()], &mut p[k.clone()]);
         assert_eq!((answer, &z, &p), (expected.0, &expected.1, &expected.2));
 
-        let mut out = draw.bytes();
+        let mut out = draw.bytes(&[12, 16]);
         let o = draw.part(out.len());
         let expected = plain::write_rows(&z[i.clone()], &n[j.clone()], &out, o.clone());
         let answer = rows::write_count_rows(&z[i.clone()], &n[j], &mut out[o.clone()]);
@@ -179,19 +209,34 @@ fn reading_and_writing_rows() {
     written.assert_all(&[0, 4, 11]);
 }
 
-#[test]
-fn adding() {
-    let (mut counts, mut densities) = (Met::default(), Met::default());
-    // Accepted calls that bring four base cells at once, or the fourth to three that are held.
-    let (mut four, mut fourth) = (0, 0);
-    let mut tell = |call: &AddCall, accepted: bool| {
-        let (Some(&next), true) = (call.hashes.first(), accepted && call.depth == 0) else {
+/// Accepted calls that bring four base cells at once, or the fourth to three that are held.
+#[derive(Default)]
+struct BaseCells {
+    four: usize,
+    fourth: usize,
+}
+
+impl BaseCells {
+    fn add<Z: Zuniq>(&mut self, call: &AddCall<Z>, accepted: bool) {
+        let hashes: Vec<u64> = call.hashes.iter().map(|&hash| hash.number()).collect();
+        let (Some(&next), true) = (hashes.first(), accepted && call.depth == 0) else {
             return;
         };
         let siblings = [0, 1, 2, 3].map(|i| next + i);
-        four += (next % 4 == 0 && call.hashes.starts_with(&siblings)) as usize;
-        fourth += (next % 4 == 3 && next as usize == call.held) as usize;
-    };
+        self.four += (next % 4 == 0 && hashes.starts_with(&siblings)) as usize;
+        self.fourth += (next % 4 == 3 && next as usize == call.held) as usize;
+    }
+
+    fn assert_some(self, name: &str) {
+        assert_some(name, "four base cells at once", self.four);
+        assert_some(name, "the fourth base cell to three", self.fourth);
+    }
+}
+
+#[test]
+fn adding() {
+    let (mut counts, mut densities) = (Met::default(), Met::default());
+    let mut base_cells = BaseCells::default();
     rounds("adding", |draw| {
         let call = draw.add_call();
         let (mut z, mut n) = (call.zuniqs.clone(), draw.counts_of(call.values));
@@ -201,7 +246,7 @@ fn adding() {
         let answer = mom::add_counts(d, m, t, held, &mut z, &mut n, &call.hashes, &batch)
             .map(|added| (added.entries, added.total));
         counts.add(&answer);
-        tell(&call, answer.is_ok());
+        base_cells.add(&call, answer.is_ok());
         assert_eq!((answer, z, n), expected, "{call:?} {batch:?}");
 
         let (mut z, mut x) = (call.zuniqs.clone(), draw.densities_of(call.values));
@@ -209,17 +254,16 @@ fn adding() {
         let expected = plain::add_densities(&call, &z, &x, &batch);
         let answer = mom::add_densities(d, m, t, held, &mut z, &mut x, &call.hashes, &batch);
         densities.add(&answer);
-        tell(&call, answer.is_ok());
+        base_cells.add(&call, answer.is_ok());
         assert_eq!((answer, z), (expected.0, expected.1), "{call:?} {batch:?}");
         assert_eq!(bits(&x), bits(&expected.2), "{call:?} {batch:?}");
     });
-    println!("of them base cells: four at once {four} times, the fourth to three {fourth} times");
-    assert!(four >= 5 && fourth >= 5);
+    base_cells.assert_some("adding");
     counts.assert_all(&[0, 1, 2, 3, 4, 5, 7, 8, 10, 11]);
     densities.assert_all(&[0, 1, 2, 3, 4, 5, 6, 7, 8, 9, 11]);
 }
 
-fn map<'a, V>(side: &'a Side, values: &'a [V]) -> Map<'a, V> {
+fn map<'a, V>(side: &'a Side<u64>, values: &'a [V]) -> Map<'a, V> {
     Map {
         depth: side.depth,
         zuniqs: &side.zuniqs,

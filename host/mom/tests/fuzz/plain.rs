@@ -1,6 +1,7 @@
-//! The scope's definitions, each as it is read there, without a thought of speed.
+//! The scope's definitions, each as it is read there, without a thought of speed. What is said of a
+//! zuniq holds for both widths, with the width's largest depth.
 
-use std::ops::Range;
+use std::{fmt::Debug, ops::Range};
 
 use mom::{Fault, MapCheck, Refusal};
 
@@ -8,6 +9,39 @@ use super::draw::{AddCall, CombineCall, Side};
 
 type Cell = (u8, u64);
 type Answer<T> = Result<T, Refusal>;
+
+/// A width of zuniqs: u64, and u32 for narrow maps. A hash has the same width.
+pub trait Zuniq: Bytes + Debug + Default + Ord {
+    /// The largest depth.
+    const MAX_DEPTH: u8;
+    /// The low bits of a number, as many as the width has.
+    fn of(number: u64) -> Self;
+    fn number(self) -> u64;
+}
+
+impl Zuniq for u64 {
+    const MAX_DEPTH: u8 = 29;
+
+    fn of(number: u64) -> u64 {
+        number
+    }
+
+    fn number(self) -> u64 {
+        self
+    }
+}
+
+impl Zuniq for u32 {
+    const MAX_DEPTH: u8 = 13;
+
+    fn of(number: u64) -> u32 {
+        number as u32
+    }
+
+    fn number(self) -> u64 {
+        self as u64
+    }
+}
 
 fn refused<T>(number: u8, place: usize) -> Answer<T> {
     Err(Refusal::of(number, place).unwrap())
@@ -27,24 +61,29 @@ fn n(depth: u8) -> u64 {
     12 * 4u64.pow(depth as u32)
 }
 
-pub fn depth(depth: u8) -> Answer<()> {
-    refuse_if(depth > 29, 1, 0)
+pub fn depth<Z: Zuniq>(depth: u8) -> Answer<()> {
+    refuse_if(depth > Z::MAX_DEPTH, 1, 0)
 }
 
 pub fn cell_number(d: u8) -> Answer<u64> {
-    depth(d)?;
+    depth::<u64>(d)?;
     Ok(n(d))
 }
 
-pub fn encode(d: u8, h: u64) -> Answer<u64> {
-    depth(d)?;
-    refuse_if(h >= n(d), 7, 0)?;
-    Ok((2 * h + 1) * 4u64.pow(29 - d as u32))
+/// 4^(K − d), K being the largest depth.
+fn scale<Z: Zuniq>(d: u8) -> u64 {
+    4u64.pow((Z::MAX_DEPTH - d) as u32)
 }
 
-pub fn cell_of(zuniq: u64) -> Option<Cell> {
-    (0..=29).find_map(|d| {
-        let h = zuniq / 4u64.pow(29 - d as u32) / 2;
+pub fn encode<Z: Zuniq>(d: u8, h: u64) -> Answer<Z> {
+    depth::<Z>(d)?;
+    refuse_if(h >= n(d), 7, 0)?;
+    Ok(Z::of((2 * h + 1) * scale::<Z>(d)))
+}
+
+pub fn cell_of<Z: Zuniq>(zuniq: Z) -> Option<Cell> {
+    (0..=Z::MAX_DEPTH).find_map(|d| {
+        let h = zuniq.number() / scale::<Z>(d) / 2;
         (encode(d, h) == Ok(zuniq)).then_some((d, h))
     })
 }
@@ -57,7 +96,7 @@ fn overlap(l: Cell, r: Cell) -> bool {
     lies_in(l, r) || lies_in(r, l)
 }
 
-pub fn overlap_test(l: u64, r: u64) -> Answer<bool> {
+pub fn overlap_test<Z: Zuniq>(l: Z, r: Z) -> Answer<bool> {
     let Some(l) = cell_of(l) else {
         return refused(12, 0);
     };
@@ -122,7 +161,7 @@ pub fn density_merger(p: u8, m: u8, t: f64, densities: [f64; 4]) -> Answer<Resul
 
 // ---- Sections 3 and 6
 
-fn fault_at(d: u8, zuniqs: &[u64], place: usize) -> Option<Fault> {
+fn fault_at<Z: Zuniq>(d: u8, zuniqs: &[Z], place: usize) -> Option<Fault> {
     let Some(cell) = cell_of(zuniqs[place]) else {
         return Some(Fault::NotAZuniq);
     };
@@ -136,12 +175,12 @@ fn fault_at(d: u8, zuniqs: &[u64], place: usize) -> Option<Fault> {
     overlap(cell_of(before)?, cell).then_some(Fault::Overlapping)
 }
 
-fn first_fault(d: u8, zuniqs: &[u64]) -> Option<(usize, Fault)> {
+fn first_fault<Z: Zuniq>(d: u8, zuniqs: &[Z]) -> Option<(usize, Fault)> {
     (0..zuniqs.len()).find_map(|place| Some((place, fault_at(d, zuniqs, place)?)))
 }
 
-pub fn check(d: u8, zuniqs: &[u64]) -> Answer<MapCheck> {
-    depth(d)?;
+pub fn check<Z: Zuniq>(d: u8, zuniqs: &[Z]) -> Answer<MapCheck> {
+    depth::<Z>(d)?;
     Ok(match first_fault(d, zuniqs) {
         Some((place, fault)) => MapCheck::Faulty { place, fault },
         None => MapCheck::Valid,
@@ -149,43 +188,43 @@ pub fn check(d: u8, zuniqs: &[u64]) -> Answer<MapCheck> {
 }
 
 /// Over an invalid map any entry that overlaps the query may be shown, or none.
-pub fn assert_containing(d: u8, zuniqs: &[u64], query: u64, answer: Answer<Option<usize>>) {
-    let refusal = depth(d).and(match cell_of(query) {
+pub fn assert_containing<Z: Zuniq>(d: u8, zuniqs: &[Z], query: Z, answer: Answer<Option<usize>>) {
+    let refusal = depth::<Z>(d).and(match cell_of(query) {
         Some((query_depth, _)) => refuse_if(query_depth != d, 12, 0),
         None => refused(12, 0),
     });
-    assert_eq!(answer.map(|_| ()), refusal, "{d} {zuniqs:?} {query}");
+    assert_eq!(answer.map(|_| ()), refusal, "{d} {zuniqs:?} {query:?}");
     let Ok(place) = answer else {
         return;
     };
-    let over = |&z: &u64| overlap_test(z, query) == Ok(true);
+    let over = |&z: &Z| overlap_test(z, query) == Ok(true);
     if let Some(place) = place {
-        assert!(over(&zuniqs[place]), "{d} {zuniqs:?} {query}");
+        assert!(over(&zuniqs[place]), "{d} {zuniqs:?} {query:?}");
     } else if first_fault(d, zuniqs).is_none() {
-        assert!(!zuniqs.iter().any(over), "{d} {zuniqs:?} {query}");
+        assert!(!zuniqs.iter().any(over), "{d} {zuniqs:?} {query:?}");
     }
 }
 
-pub fn assert_overlapped(zuniqs: &[u64], query: u64, answer: Answer<Range<usize>>) {
+pub fn assert_overlapped<Z: Zuniq>(zuniqs: &[Z], query: Z, answer: Answer<Range<usize>>) {
     let refusal = refuse_if(cell_of(query).is_none(), 12, 0);
-    assert_eq!(answer.clone().map(|_| ()), refusal, "{zuniqs:?} {query}");
+    assert_eq!(answer.clone().map(|_| ()), refusal, "{zuniqs:?} {query:?}");
     let Ok(run) = answer else {
         return;
     };
-    let over = |z: &u64| overlap_test(*z, query) == Ok(true);
-    assert!(zuniqs[run.clone()].iter().all(over), "{zuniqs:?} {query}");
-    if first_fault(29, zuniqs).is_none() {
+    let over = |z: &Z| overlap_test(*z, query) == Ok(true);
+    assert!(zuniqs[run.clone()].iter().all(over), "{zuniqs:?} {query:?}");
+    if first_fault(Z::MAX_DEPTH, zuniqs).is_none() {
         let number = zuniqs.iter().filter(|z| over(z)).count();
-        assert_eq!(run.len(), number, "{zuniqs:?} {query}");
+        assert_eq!(run.len(), number, "{zuniqs:?} {query:?}");
         let first = zuniqs.iter().position(over).unwrap_or(0);
-        assert_eq!(run.start, first, "{zuniqs:?} {query}");
+        assert_eq!(run.start, first, "{zuniqs:?} {query:?}");
     }
 }
 
 // ---- Section 4
 
-fn check_add(call: &AddCall, buffer: usize, batch: usize) -> Answer<()> {
-    refuse_if(call.depth > 29, 1, 0)?;
+fn check_add<Z: Zuniq>(call: &AddCall<Z>, buffer: usize, batch: usize) -> Answer<()> {
+    depth::<Z>(call.depth)?;
     refuse_if(call.m > 29, 2, 0)?;
     refuse_if(call.t.is_nan(), 3, 0)?;
     let places = call.zuniqs.len();
@@ -201,16 +240,16 @@ fn check_add(call: &AddCall, buffer: usize, batch: usize) -> Answer<()> {
 }
 
 /// 7, 8 and, by `invalid`, 9, cell by cell.
-fn check_cells(call: &AddCall, invalid: impl Fn(usize) -> bool) -> Answer<()> {
+fn check_cells<Z: Zuniq>(call: &AddCall<Z>, invalid: impl Fn(usize) -> bool) -> Answer<()> {
     let d = call.depth;
     let end = call.zuniqs[..call.held].last().map_or(0, |&z| {
         let (e, g) = cell_of(z).unwrap();
         (g + 1) * 4u64.pow((d - e) as u32)
     });
     for (i, &hash) in call.hashes.iter().enumerate() {
-        refuse_if(hash >= n(d), 7, i)?;
+        refuse_if(hash.number() >= n(d), 7, i)?;
         let below = if i == 0 {
-            hash < end
+            hash.number() < end
         } else {
             hash <= call.hashes[i - 1]
         };
@@ -220,7 +259,7 @@ fn check_cells(call: &AddCall, invalid: impl Fn(usize) -> bool) -> Answer<()> {
     Ok(())
 }
 
-fn check_space(call: &AddCall) -> Answer<()> {
+fn check_space<Z>(call: &AddCall<Z>) -> Answer<()> {
     refuse_if(call.zuniqs.len() < call.held + call.hashes.len(), 11, 0)
 }
 
@@ -247,38 +286,42 @@ fn append<V: Copy>(
     }
 }
 
-fn build<V: Copy + Default>(
-    call: &AddCall,
+fn build<Z: Zuniq, V: Copy + Default>(
+    call: &AddCall<Z>,
     values: &[V],
     batch: &[V],
     merge: impl Fn(u8, [V; 4]) -> Option<V>,
-) -> (Vec<u64>, Vec<V>, usize) {
+) -> (Vec<Z>, Vec<V>, usize) {
     let held = call.zuniqs[..call.held].iter().zip(values);
     let mut entries = held.map(|(&z, &v)| (cell_of(z).unwrap(), v)).collect();
     for (&hash, &value) in call.hashes.iter().zip(batch) {
-        append(&mut entries, (call.depth, hash), value, &merge);
+        append(&mut entries, (call.depth, hash.number()), value, &merge);
     }
     buffers(&entries, call.zuniqs.len())
 }
 
 /// "Every place after the entries is 0." With their number.
-fn buffers<V: Copy + Default>(entries: &[(Cell, V)], places: usize) -> (Vec<u64>, Vec<V>, usize) {
+fn buffers<Z: Zuniq, V: Copy + Default>(
+    entries: &[(Cell, V)],
+    places: usize,
+) -> (Vec<Z>, Vec<V>, usize) {
     let zuniqs = entries.iter().map(|&((d, h), _)| encode(d, h).unwrap());
-    let mut zuniqs: Vec<u64> = zuniqs.collect();
+    let mut zuniqs: Vec<Z> = zuniqs.collect();
     let mut values: Vec<V> = entries.iter().map(|&(_, value)| value).collect();
-    zuniqs.resize(places, 0);
+    zuniqs.resize(places, Z::default());
     values.resize(places, V::default());
     (zuniqs, values, entries.len())
 }
 
-type Added<A, V> = (Answer<A>, Vec<u64>, Vec<V>);
+/// The answer, and both buffers after the call.
+type Left<A, Z, V> = (Answer<A>, Vec<Z>, Vec<V>);
 
-pub fn add_counts(
-    call: &AddCall,
-    z: &[u64],
+pub fn add_counts<Z: Zuniq>(
+    call: &AddCall<Z>,
+    z: &[Z],
     counts: &[u32],
     batch: &[u32],
-) -> Added<(usize, u32), u32> {
+) -> Left<(usize, u32), Z, u32> {
     let check = || {
         check_add(call, counts.len(), batch.len())?;
         check_cells(call, |_| false)?;
@@ -303,11 +346,11 @@ pub fn add_counts(
 }
 
 pub fn add_densities(
-    call: &AddCall,
+    call: &AddCall<u64>,
     z: &[u64],
     densities: &[f64],
     batch: &[f64],
-) -> Added<usize, f64> {
+) -> Left<usize, u64, f64> {
     let check = || {
         check_add(call, densities.len(), batch.len())?;
         if let Some(place) = densities[..call.held].iter().position(|&x| invalid(x)) {
@@ -332,12 +375,12 @@ pub fn add_densities(
 pub type Part = (Cell, [Option<usize>; 2]);
 
 /// The overlay of two maps; `None` where one of them is invalid.
-pub fn overlay(sides: &[Side; 2]) -> Option<Vec<Part>> {
-    let valid = |side: &Side| check(side.depth, &side.zuniqs) == Ok(MapCheck::Valid);
+pub fn overlay(sides: &[Side<u64>; 2]) -> Option<Vec<Part>> {
+    let valid = |side: &Side<u64>| check(side.depth, &side.zuniqs) == Ok(MapCheck::Valid);
     if !sides.iter().all(valid) {
         return None;
     }
-    let cells = |side: &Side| side.zuniqs.iter().map(|&z| cell_of(z).unwrap()).collect();
+    let cells = |side: &Side<u64>| side.zuniqs.iter().map(|&z| cell_of(z).unwrap()).collect();
     let maps: [Vec<Cell>; 2] = [cells(&sides[0]), cells(&sides[1])];
     let mut parts = Vec::new();
     for base in 0..12 {
@@ -366,7 +409,7 @@ fn overlay_in(cell: Cell, maps: &[Vec<Cell>; 2], parts: &mut Vec<Part>) {
 
 /// The overlay cells with the values that the rule gives them; those that it drops are left out.
 fn ruled<V: Copy>(
-    sides: &[Side; 2],
+    sides: &[Side<u64>; 2],
     values: [&[V]; 2],
     split: impl Fn(V, u64) -> V,
     rule: impl Fn(Option<V>, Option<V>) -> Option<V>,
@@ -387,13 +430,13 @@ fn ruled<V: Copy>(
 }
 
 fn check_settings(call: &CombineCall) -> Answer<()> {
-    depth(call.sides[0].depth)?;
-    depth(call.sides[1].depth)?;
+    depth::<u64>(call.sides[0].depth)?;
+    depth::<u64>(call.sides[1].depth)?;
     refuse_if(call.m > 29, 2, 0)?;
     refuse_if(call.t.is_nan(), 3, 0)
 }
 
-fn check_sides<V>(sides: &[Side; 2], values: [&[V]; 2], z: &[u64], out: &[V]) -> Answer<()> {
+fn check_sides<V>(sides: &[Side<u64>; 2], values: [&[V]; 2], z: &[u64], out: &[V]) -> Answer<()> {
     let [left, right] = sides;
     refuse_if(left.zuniqs.len() != values[0].len(), 4, 0)?;
     refuse_if(right.zuniqs.len() != values[1].len(), 4, 0)?;
@@ -424,7 +467,7 @@ pub fn pool(
     values: [&[u32]; 2],
     z: &[u64],
     counts: &[u32],
-) -> Added<(usize, u32), u32> {
+) -> Left<(usize, u32), u64, u32> {
     let split = |v: u32, child: u64| v / 4 + (child < (v % 4) as u64) as u32;
     let rule = |left: Option<u32>, right: Option<u32>| match (left, right) {
         (Some(left), Some(right)) => Some(left + right),
@@ -454,7 +497,7 @@ pub fn product(
     values: [&[f64]; 2],
     z: &[u64],
     densities: &[f64],
-) -> Added<usize, f64> {
+) -> Left<usize, u64, f64> {
     let check = || {
         check_settings(call)?;
         refuse_if(invalid(call.k), 3, 0)?;
@@ -483,18 +526,18 @@ pub fn product(
 // ---- Section 7
 
 pub fn density_of_count(d: u8, count: u32) -> Answer<f64> {
-    depth(d)?;
+    depth::<u64>(d)?;
     Ok(count as f64 / ((4.0 * std::f64::consts::PI) / n(d) as f64))
 }
 
-/// What stands behind the zuniq in a row.
-pub trait Value: Copy {
+/// A number of a row, little-endian.
+pub trait Bytes: Copy {
     const SIZE: usize;
     fn of_bytes(bytes: &[u8]) -> Self;
     fn to_bytes(self) -> Vec<u8>;
 }
 
-impl Value for u32 {
+impl Bytes for u32 {
     const SIZE: usize = 4;
 
     fn of_bytes(bytes: &[u8]) -> u32 {
@@ -506,7 +549,7 @@ impl Value for u32 {
     }
 }
 
-impl Value for u64 {
+impl Bytes for u64 {
     const SIZE: usize = 8;
 
     fn of_bytes(bytes: &[u8]) -> u64 {
@@ -519,53 +562,88 @@ impl Value for u64 {
 }
 
 /// "At most 4,096 count rows (more is number 11)": their zuniqs.
-pub fn map_rows(bytes: &[u8]) -> Answer<Vec<u64>> {
-    refuse_if(bytes.len() % 12 != 0, 4, 0)?;
-    refuse_if(bytes.len() / 12 > 4096, 11, 0)?;
-    Ok(bytes
-        .chunks(12)
-        .map(|row| u64::of_bytes(&row[..8]))
-        .collect())
+pub fn map_rows<Z: Zuniq>(bytes: &[u8]) -> Answer<Vec<Z>> {
+    let size = Z::SIZE + 4;
+    refuse_if(bytes.len() % size != 0, 4, 0)?;
+    refuse_if(bytes.len() / size > 4096, 11, 0)?;
+    let rows = bytes.chunks(size);
+    Ok(rows.map(|row| Z::of_bytes(&row[..Z::SIZE])).collect())
 }
 
 /// Into the parts `i` and `j` of the buffers.
-pub fn read_rows<V: Value>(
+pub fn read_rows<Z: Bytes, V: Bytes>(
     bytes: &[u8],
-    zuniqs: &[u64],
+    zuniqs: &[Z],
     values: &[V],
     i: Range<usize>,
     j: Range<usize>,
-) -> (Answer<usize>, Vec<u64>, Vec<V>) {
+) -> Left<usize, Z, V> {
     let (mut zuniqs, mut values) = (zuniqs.to_vec(), values.to_vec());
-    let size = 8 + V::SIZE;
+    let size = Z::SIZE + V::SIZE;
     let rows = bytes.len() / size;
     let answer = refuse_if(i.len() != j.len(), 4, 0)
         .and(refuse_if(bytes.len() % size != 0, 4, 0))
         .and(refuse_if(i.len() < rows, 11, 0));
     if answer.is_ok() {
         for (row, bytes) in bytes.chunks(size).enumerate() {
-            zuniqs[i.start + row] = u64::of_bytes(&bytes[..8]);
-            values[j.start + row] = V::of_bytes(&bytes[8..]);
+            zuniqs[i.start + row] = Z::of_bytes(&bytes[..Z::SIZE]);
+            values[j.start + row] = V::of_bytes(&bytes[Z::SIZE..]);
         }
     }
     (answer.map(|()| rows), zuniqs, values)
 }
 
 /// Into the part `o` of the bytes.
-pub fn write_rows<V: Value>(
-    zuniqs: &[u64],
+pub fn write_rows<Z: Bytes, V: Bytes>(
+    zuniqs: &[Z],
     values: &[V],
     out: &[u8],
     o: Range<usize>,
 ) -> (Answer<usize>, Vec<u8>) {
     let mut out = out.to_vec();
     let rows = zuniqs.len();
-    let answer =
-        refuse_if(rows != values.len(), 4, 0).and(refuse_if(o.len() < rows * (8 + V::SIZE), 11, 0));
+    let size = Z::SIZE + V::SIZE;
+    let answer = refuse_if(rows != values.len(), 4, 0).and(refuse_if(o.len() < rows * size, 11, 0));
     if answer.is_ok() {
-        let row = |(z, v): (&u64, &V)| [z.to_le_bytes().to_vec(), v.to_bytes()].concat();
+        let row = |(z, v): (&Z, &V)| [z.to_bytes(), v.to_bytes()].concat();
         let bytes: Vec<u8> = zuniqs.iter().zip(values).flat_map(row).collect();
         out[o.start..][..bytes.len()].copy_from_slice(&bytes);
     }
     (answer.map(|()| rows), out)
+}
+
+// ---- Request 2
+
+/// A map moved from the width `Z` to the width `Y`, into an output that held `z` and `n`. "A narrowed
+/// map's depth is the smaller of its own and 13, a widened one's its own. Moving answers the depth
+/// and the number of entries; space is judged by that number, and places after them are 0." 13 is
+/// "tried after 5".
+pub fn moved<Z: Zuniq, Y: Zuniq>(
+    map: &Side<Z>,
+    counts: &[u32],
+    z: &[Y],
+    n: &[u32],
+) -> Left<(u8, usize), Y, u32> {
+    let check = || {
+        depth::<Z>(map.depth)?;
+        refuse_if(map.zuniqs.len() != counts.len(), 4, 0)?;
+        refuse_if(z.len() != n.len(), 4, 0)?;
+        if let Some((place, _)) = first_fault(map.depth, &map.zuniqs) {
+            return refused(5, place);
+        }
+        let cells: Vec<Cell> = map.zuniqs.iter().map(|&z| cell_of(z).unwrap()).collect();
+        if let Some(place) = cells.iter().position(|&(d, _)| d > Y::MAX_DEPTH) {
+            return refused(13, place);
+        }
+        refuse_if(z.len() < cells.len(), 11, 0)?;
+        Ok(cells)
+    };
+    match check() {
+        Ok(cells) => {
+            let entries: Vec<(Cell, u32)> = cells.into_iter().zip(counts.to_vec()).collect();
+            let (zuniqs, counts, number) = buffers(&entries, z.len());
+            (Ok((map.depth.min(Y::MAX_DEPTH), number)), zuniqs, counts)
+        }
+        Err(refusal) => (Err(refusal), z.to_vec(), n.to_vec()),
+    }
 }

@@ -2,45 +2,47 @@
 //! given what the original builds from the cells before, and held to what it builds from all.
 
 use differential::{
-    cells::{n_hash, DEPTH_MAX},
+    cells::n_hash,
     floats::Float,
-    lists::Value,
+    lists::{Build, Value},
     random::{any_of, Random},
+    widths::Width,
 };
 
 use crate::{Line, Number};
 
-const DRAWN: usize = 32;
-
-pub fn print(random: &mut Random) {
-    for _ in 0..DRAWN {
-        let list = List::<u32>::random(random);
-        list.line("add_counts", |line, values| {
+pub fn print_counts<Z: Width + Number>(random: &mut Random, drawn: usize) {
+    for _ in 0..drawn {
+        let list = List::<u32, Z>::random(random);
+        list.line(|line, values| {
             let total: u32 = values.iter().sum();
             line.with(total)
         })
         .print();
     }
-    for _ in 0..DRAWN {
-        let list = List::<Float>::random(random);
-        list.line("add_densities", |line, _| line).print();
+}
+
+pub fn print_densities(random: &mut Random, drawn: usize) {
+    for _ in 0..drawn {
+        let list = List::<Float, u64>::random(random);
+        list.line(|line, _| line).print();
     }
 }
 
 /// Cells of one depth, of which the first `cut` are held already.
-struct List<V> {
+struct List<V, Z> {
     depth: u8,
     m: u8,
     t: Float,
-    cells: Vec<(u64, V)>,
+    cells: Vec<(Z, V)>,
     cut: usize,
 }
 
-impl<V: Value + Number> List<V> {
+impl<V: Build<Z> + Number, Z: Width + Number> List<V, Z> {
     /// Cells that follow each other but for a gap now and then, from a border of large cells on or up to
     /// the last cell.
     fn random(random: &mut Random) -> Self {
-        let depth = 1 + random.below(DEPTH_MAX as u64) as u8;
+        let depth = 1 + random.below(Z::DEPTH_MAX as u64) as u8;
         let n = n_hash(depth);
         let len = any_of(random, &[4, 8, 16]);
         let first = match random.coin() {
@@ -49,7 +51,7 @@ impl<V: Value + Number> List<V> {
         };
         let gap = random.below(4) == 0;
         let hashes = (first..n.min(first + len)).filter(|_| !gap || random.below(8) > 0);
-        let hashes: Vec<u64> = hashes.collect();
+        let hashes: Vec<Z> = hashes.map(Z::of).collect();
         let values = Self::values(random, depth, hashes.len());
         let cut = match random.coin() {
             true => 0,
@@ -78,14 +80,14 @@ impl<V: Value + Number> List<V> {
         }
     }
 
-    fn line(&self, word: &'static str, total: impl Fn(Line, &[V]) -> Line) -> Line {
-        let (hashes, values): (Vec<u64>, Vec<V>) = self.cells.iter().copied().unzip();
+    fn line(&self, total: impl Fn(Line, &[V]) -> Line) -> Line {
+        let (hashes, values): (Vec<Z>, Vec<V>) = self.cells.iter().copied().unzip();
         let held = V::build(self.depth, self.m, self.t.0, &self.cells[..self.cut]);
         let built = V::build(self.depth, self.m, self.t.0, &self.cells);
         // One place more than are needed, and in the free ones what is no zuniq.
         let places = held.len() + self.cells.len() - self.cut + 1;
-        let (zuniqs, held_values) = buffers(&held, places, 2, V::of_content(3));
-        let line = Line::new(word)
+        let (zuniqs, held_values) = buffers(&held, places, Z::of(2), V::of_content(3));
+        let line = Line::new(V::NAME)
             .with(self.depth)
             .with(self.m)
             .with(self.t)
@@ -94,7 +96,7 @@ impl<V: Value + Number> List<V> {
             .with_list(&held_values)
             .with_list(&hashes[self.cut..])
             .with_list(&values[self.cut..]);
-        let (zuniqs, built_values) = buffers(&built, places, 0, V::ZERO);
+        let (zuniqs, built_values) = buffers(&built, places, Z::of(0), V::ZERO);
         total(line.with(built.len()), &values)
             .with_list(&zuniqs)
             .with_list(&built_values)
@@ -102,12 +104,12 @@ impl<V: Value + Number> List<V> {
 }
 
 /// Entries in two buffers, with the same in every place behind them.
-pub fn buffers<V: Copy>(
-    entries: &[(u64, V)],
+pub fn buffers<V: Copy, Z: Copy>(
+    entries: &[(Z, V)],
     places: usize,
-    zuniq: u64,
+    zuniq: Z,
     value: V,
-) -> (Vec<u64>, Vec<V>) {
+) -> (Vec<Z>, Vec<V>) {
     let free = std::iter::repeat((zuniq, value));
     entries.iter().copied().chain(free).take(places).unzip()
 }

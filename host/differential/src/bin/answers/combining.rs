@@ -89,7 +89,7 @@ fn line<V: Combine + Number>(
     total: impl Fn(Line, &[(u64, V)]) -> Line,
 ) -> Line {
     let places = input.kept().len() + 1;
-    let (zuniqs, values) = buffers(&[], places, 2, V::of_content(3));
+    let (zuniqs, values) = buffers(&[], places, 2u64, V::of_content(3));
     let mut line = with_map(Line::new(V::CALL), &input.left);
     line = with_map(line, &input.right)
         .with(input.depth_threshold)

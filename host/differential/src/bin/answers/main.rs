@@ -11,20 +11,35 @@ mod cells;
 mod combining;
 mod maps;
 mod mergers;
+mod moving;
 mod rows;
 
 use differential::{floats::Float, random::Random};
 
 fn main() {
     cells::print();
+    cells::print_zuniqs::<u64>();
     mergers::print(&mut random(2));
-    maps::print(&mut random(3));
-    building::print(&mut random(4));
+    maps::print::<u64>(&mut random(3), 40);
+    let building = &mut random(4);
+    building::print_counts::<u64>(building, 32);
+    building::print_densities(building, 32);
     combining::print(&mut random(5));
-    rows::print(&mut random(7));
+    rows::print(&mut random(7), 16);
+    print_narrow(&mut random(8));
 }
 
-/// The numbers that the arguments of a section are drawn from.
+/// Narrow maps, and moving between the widths.
+fn print_narrow(random: &mut Random) {
+    cells::print_zuniqs::<u32>();
+    maps::print::<u32>(random, 20);
+    building::print_counts::<u32>(random, 20);
+    rows::print_narrow(random, 10);
+    moving::print::<u64>(random, 10);
+    moving::print::<u32>(random, 10);
+}
+
+/// The numbers that the arguments of a section are drawn from; 8 is for narrow maps.
 fn random(section: u64) -> Random {
     Random::part(1, section)
 }

@@ -5,19 +5,19 @@ use differential::{
     floats::Float,
     kinds::RowValue,
     random::{any_of, Random},
+    widths::Width,
 };
 use oracle::run;
 
 use crate::{Line, Number};
 
-const DRAWN: usize = 16;
-
-pub fn print(random: &mut Random) {
-    for _ in 0..DRAWN {
-        print_rows::<u32>(random);
+/// Prints `drawn` lines of each call on rows, and the densities.
+pub fn print(random: &mut Random, drawn: usize) {
+    for _ in 0..drawn {
+        print_rows::<u32, u64>(random, ["read_count_rows", "write_count_rows"]);
     }
-    for _ in 0..DRAWN {
-        print_rows::<u64>(random);
+    for _ in 0..drawn {
+        print_rows::<u64, u64>(random, ["read_density_rows", "write_density_rows"]);
     }
     for depth in 0..=DEPTH_MAX {
         let any = random.bits() as u32;
@@ -30,32 +30,41 @@ pub fn print(random: &mut Random) {
     }
 }
 
+pub fn print_narrow(random: &mut Random, drawn: usize) {
+    for _ in 0..drawn {
+        print_rows::<u32, u32>(random, ["read_narrow_rows", "write_narrow_rows"]);
+    }
+}
+
 /// Rows written and read again. Places past them stay: there is one of each, and a byte.
-fn print_rows<V: RowValue + Number>(random: &mut Random) {
+fn print_rows<V: RowValue<Z> + Number, Z: Width + Number>(
+    random: &mut Random,
+    [read, write]: [&'static str; 2],
+) {
     let most = 40 / V::ROW as u64;
     let rows = random.below(most + 1);
-    let entries: Vec<(u64, V)> = (0..rows)
-        .map(|_| (any_bits(random), V::of_bits(any_bits(random))))
+    let entries: Vec<(Z, V)> = (0..rows)
+        .map(|_| (Z::of(any_bits(random)), V::of_bits(any_bits(random))))
         .collect();
-    let (zuniqs, values): (Vec<u64>, Vec<V>) = entries.iter().copied().unzip();
+    let (zuniqs, values): (Vec<Z>, Vec<V>) = entries.iter().copied().unzip();
     let (bytes, written) = V::original_write(entries);
     assert_eq!(bytes.len(), written, "the original counts its bytes");
     let free = vec![170u8; bytes.len() + 1];
-    Line::new(V::WRITE)
+    Line::new(write)
         .with_list(&zuniqs)
         .with_list(&values)
         .with_list(&free)
         .with(bytes.len() / V::ROW)
         .with_list(&[&bytes[..], &[170]].concat())
         .print();
-    let read = V::original_read(&bytes);
-    let (mut zuniqs, mut values): (Vec<u64>, Vec<V>) = read.into_iter().unzip();
+    let entries = V::original_read(&bytes);
+    let (mut zuniqs, mut values): (Vec<Z>, Vec<V>) = entries.into_iter().unzip();
     let rows = zuniqs.len();
-    zuniqs.push(2);
+    zuniqs.push(Z::of(2));
     values.push(V::of_bits(3));
-    Line::new(V::READ)
+    Line::new(read)
         .with_list(&bytes)
-        .with_list(&vec![2u64; rows + 1])
+        .with_list(&vec![Z::of(2); rows + 1])
         .with_list(&vec![V::of_bits(3); rows + 1])
         .with(rows)
         .with_list(&zuniqs)
