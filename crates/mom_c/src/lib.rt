@@ -1,7 +1,8 @@
 // The C functions: section 7 of the scope, on numbers and byte slices. `ingest` has those of the Rust
 // ingest process: rows, and the check and lookup of maps that come as rows. `domes` has those of the
-// dome boxes, and `widths` what goes between the two widths. Those here are for the comparison with the
-// original and the benchmark; the check and lookup take the zuniqs of a map.
+// dome boxes, `widths` what goes between the two widths, and `disks` rows laid out by byte column.
+// Those here are for the comparison with the original and the benchmark; the check and lookup take the
+// zuniqs of a map.
 //
 // A call answers one word, which `words` makes of the library's answer. What does not fit goes through
 // a `&mut` number, which is written on acceptance alone: a refusal touches nothing.
@@ -34,6 +35,7 @@ use words::zuniq_word;
 use zuniq::Zuniq64;
 
 mod combining;
+mod disks;
 mod domes;
 mod ingest;
 mod widths;

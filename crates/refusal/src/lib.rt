@@ -14,7 +14,8 @@ pub enum Refusal {
     Chi2ThresholdIsNan,
     // k, the factor of a product, is NaN, infinite or below 0.
     InvalidFactor,
-    // Paired buffers differ in length, a stated number exceeds its buffer, or row bytes are uneven.
+    // Paired buffers differ in length, a stated number exceeds its buffer, row bytes are uneven, or a
+    // row length is not named.
     LengthMismatch,
     // A held or given map is invalid at this entry.
     InvalidMap(usize),

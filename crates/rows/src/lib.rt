@@ -17,7 +17,7 @@ ghost use lib.ListN.{getD};
 ghost use Rattle.rows.specs.Rows.{zuniqsOf, countRows, densityRows, narrowRows, readRows, writeRows};
 use refusal::Refusal;
 
-mod little_endian;
+pub mod little_endian;
 mod reading;
 mod writing;
 

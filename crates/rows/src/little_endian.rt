@@ -1,12 +1,13 @@
 // Little-endian numbers in a slice of bytes: the source's `from_le_bytes` and `to_le_bytes`, which
-// the language does not have. The compiler makes one load or store of each call.
+// the language does not have. The compiler makes one load or store of each call. Byte columns, of the
+// crate `columns`, are read and written by them too.
 ghost use mathlib.Core.Path.{_≡_};
 ghost use mathlib.Core.List.{[], _∷_};
 ghost use Prim.Native.Nat.{_+_, _≤_};
 ghost use lib.ListN.{length, take, drop};
 ghost use Rattle.rows.specs.LittleEndian.{toLeBytes, fromLeBytes, put};
 
-fn u32_from_le_bytes(b0: u8, b1: u8, b2: u8, b3: u8) -> u32
+pub fn u32_from_le_bytes(b0: u8, b1: u8, b2: u8, b3: u8) -> u32
     ensures { λ r. ⌜ r ≡ fromLeBytes (b0 ∷ b1 ∷ b2 ∷ b3 ∷ []) ⌝ }
 {
     b0 as u32 + 0x100 * b1 as u32 + 0x1_0000 * b2 as u32 + 0x100_0000 * b3 as u32
@@ -26,7 +27,7 @@ pub(crate) fn u64_at(bytes: &[u8], at: usize) -> u64
     u32_at(bytes, at) as u64 + 0x1_0000_0000 * u32_at(bytes, at + 4) as u64
 }
 
-pub(crate) fn put_u32(bytes: &mut [u8], at: usize, n: u32)
+pub fn put_u32(bytes: &mut [u8], at: usize, n: u32)
     requires { ⌜ at + 4 ≤ length (now bytes) ⌝ }
     ensures { λ _. ⌜ now (bytes .exit) ≡ put at (toLeBytes 4 n) (now (bytes .entry)) ⌝ }
 {
