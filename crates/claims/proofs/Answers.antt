@@ -41,6 +41,8 @@ use Rattle.moving.specs.Moving.{deepRefusal, entriesRefusal, movingRefusal, mov
 use Rattle.moving.specs.Told.{toldMoved}
 use Rattle.rows.specs.Rows.{differ, places, rowsToRead, rowsToWrite}
 use Rattle.rows.specs.Told.{toldRows}
+use Rattle.rows.specs.declared.Rows.{Rows}
+use Rattle.columns.specs.Columns.{named, rowsToLay, laid, rowsToColumns, columnsToRows}
 use Rattle.density.specs.Densities.{densityAt, densityOfCount}
 use Rattle.density.specs.Told.{toldCountDensity}
 use Rattle.claims.specs.Answers.{row, rowAt, rowsOf, faultyEntry, faultTold}
@@ -403,3 +405,30 @@ module _ (K L D : ℕ) (zs vs ozs ovs : List ℕ) where
       ∙ in-order (mapRefusal (firstFault K D zs)) _ _
       ∙ map-row (firstFault K D zs) _
       ∙ ap (rowAt 5 (faultyEntry (firstFault K D zs))) (ap (rowsOf (deepRefusal K L 0 zs)) (one-row (ltb (length ozs) (0 + length zs)) _ _))))
+
+-- ---- note 3
+laid-told : (a : Rows) (bytes : ℕ → List ℕ) (output : List ℕ) → toldRows (laid a bytes output .0) ≡ toldRows a
+unfolding laid
+laid-told (Rows.Rows n) bytes output = refl
+laid-told (Rows.Refused r) bytes output = refl
+
+-- Laying rows of k bytes out by column, and the way back: 4, 11.
+module _ (k bytes space : ℕ) where
+  abbrev pub layTold : Told ℕ
+  layTold = row 4 (not (named k)) (row 4 (not (eqb (bytes % k) 0)) (row 11 (ltb space bytes) (Told.answer (bytes / k))))
+
+  lay-tells : toldRows (rowsToLay k bytes space) ≡ layTold
+  unfolding rowsToLay
+  lay-tells =
+      of-choice toldRows (not (named k)) _ _
+      ∙ ap (row 4 (not (named k))) (of-choice toldRows (not (eqb (bytes % k) 0)) _ _
+      ∙ ap (row 4 (not (eqb (bytes % k) 0))) (of-choice toldRows (ltb space bytes) _ _))
+
+module _ (k : ℕ) (bytes output : List ℕ) where
+  pub rows-to-columns-tells : toldRows (rowsToColumns k bytes output .0) ≡ layTold k (length bytes) (length output)
+  unfolding rowsToColumns
+  rows-to-columns-tells = laid-told (rowsToLay k (length bytes) (length output)) _ output ∙ lay-tells k (length bytes) (length output)
+
+  pub columns-to-rows-tells : toldRows (columnsToRows k bytes output .0) ≡ layTold k (length bytes) (length output)
+  unfolding columnsToRows
+  columns-to-rows-tells = laid-told (rowsToLay k (length bytes) (length output)) _ output ∙ lay-tells k (length bytes) (length output)

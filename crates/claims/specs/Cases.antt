@@ -26,6 +26,9 @@ use Rattle.combine.specs.Overlay.{someEntry, fits, part, valueIn, overlayIn, ov
 use Rattle.combine.specs.Rules.{kept, combined, splitCount, definedPool}
 use Rattle.moving.specs.Moving.{isDeeper, deepRefusal, entriesRefusal, movingRefusal, movedOr, moved}
 use Rattle.moving.specs.declared.Moved.{Moved}
+use Rattle.rows.specs.declared.Rows.{Rows}
+use Rattle.columns.specs.Columns as Columns
+use Rattle.columns.specs.Columns.{byColumn, byRow, named, rowsToLay, rowsToColumns, columnsToRows}
 
 pub every : List Bool → Bool
 every [] = true
@@ -216,7 +219,54 @@ note2 =
     ∷ refuses 11 0 (moved 13 29 13 (1 ∷ []) (7 ∷ []) [] [])
     ∷ []
 
+-- ---- what a row of note 3 says
+-- laying out, or the way back, answers this number of rows and leaves these bytes in the output
+lays : Rows × List ℕ → ℕ → List ℕ → Bool
+lays (Rows.Rows number, bytes) n xs = eqb number n && isList bytes xs
+lays (Rows.Refused r, bytes) n xs = false
+
+-- it is refused by this number, with place 0, and leaves the output, which held 9 everywhere, as it was
+refusesRows : ℕ → Rows × List ℕ → Bool
+refusesRows number (Rows.Rows n, bytes) = false
+refusesRows number (Rows.Refused r, bytes) = eqb (numberOf r) number && (eqb (placeOf r) 0 && isList bytes (times (length bytes) 9))
+
+-- two rows that hold the numbers from 1 on, by column
+columns8 : List ℕ
+columns8 = 1 ∷ 9 ∷ 2 ∷ 10 ∷ 3 ∷ 11 ∷ 4 ∷ 12 ∷ 5 ∷ 13 ∷ 6 ∷ 14 ∷ 7 ∷ 15 ∷ 8 ∷ 16 ∷ []
+
+columns12 : List ℕ
+columns12 = 1 ∷ 13 ∷ 2 ∷ 14 ∷ 3 ∷ 15 ∷ 4 ∷ 16 ∷ 5 ∷ 17 ∷ 6 ∷ 18 ∷ 7 ∷ 19 ∷ 8 ∷ 20 ∷ 9 ∷ 21 ∷ 10 ∷ 22 ∷ 11 ∷ 23 ∷ 12 ∷ 24 ∷ []
+
+columns16 : List ℕ
+columns16 = 1 ∷ 17 ∷ 2 ∷ 18 ∷ 3 ∷ 19 ∷ 4 ∷ 20 ∷ 5 ∷ 21 ∷ 6 ∷ 22 ∷ 7 ∷ 23 ∷ 8 ∷ 24 ∷ 9 ∷ 25 ∷ 10 ∷ 26 ∷ 11 ∷ 27 ∷ 12 ∷ 28 ∷ 13 ∷ 29 ∷ 14 ∷ 30 ∷ 15 ∷ 31 ∷ 16 ∷ 32 ∷ []
+
+-- ---- note 3 of 02: rows laid out by byte column, and the way back
+pub note3 : List Bool
+unfolding isList lays refusesRows from times columns8 columns12 columns16 Columns.every Columns.runs Columns.laid byColumn byRow named rowsToLay rowsToColumns columnsToRows
+note3 =
+    -- "Byte j of row i stands at j × rows + i", "for 8, 12 and 16 byte rows"; "touches nothing past the rows"
+    lays (rowsToColumns 8 (from 16 1) (times 17 9)) 2 (columns8 ++ (9 ∷ []))
+    ∷ lays (rowsToColumns 12 (from 24 1) (times 24 9)) 2 columns12
+    ∷ lays (rowsToColumns 16 (from 32 1) (times 32 9)) 2 columns16
+    -- "and the way back"
+    ∷ lays (columnsToRows 8 columns8 (times 17 9)) 2 (from 16 1 ++ (9 ∷ []))
+    ∷ lays (columnsToRows 12 columns12 (times 24 9)) 2 (from 24 1)
+    ∷ lays (columnsToRows 16 columns16 (times 32 9)) 2 (from 32 1)
+    -- one row stands as it stood, and no rows are accepted
+    ∷ lays (rowsToColumns 12 (from 12 1) (times 12 9)) 1 (from 12 1)
+    ∷ lays (rowsToColumns 16 [] (9 ∷ [])) 0 (9 ∷ [])
+    -- "An uneven length, or a row length not named here, is number 4": 0 too, and where there are no bytes
+    ∷ refusesRows 4 (rowsToColumns 8 (from 15 1) (times 16 9))
+    ∷ refusesRows 4 (rowsToColumns 0 [] [])
+    ∷ refusesRows 4 (columnsToRows 4 (from 8 1) (times 8 9))
+    ∷ refusesRows 4 (columnsToRows 13 [] (9 ∷ []))
+    -- "an output shorter than the input is 11", tried after 4
+    ∷ refusesRows 11 (rowsToColumns 8 (from 16 1) (times 15 9))
+    ∷ refusesRows 11 (columnsToRows 12 columns12 (times 23 9))
+    ∷ refusesRows 4 (columnsToRows 16 (from 17 1) (times 16 9))
+    ∷ []
+
 -- ---- all of them
-pub starred-cases : every (section1 ++ (section2 ++ (section4 ++ (section5 ++ (note1 ++ note2))))) ≡ true
-unfolding every section1 section2 section4 section5 note1 note2
+pub starred-cases : every (section1 ++ (section2 ++ (section4 ++ (section5 ++ (note1 ++ (note2 ++ note3)))))) ≡ true
+unfolding every section1 section2 section4 section5 note1 note2 note3
 starred-cases = refl
