@@ -2,4 +2,4 @@
 use Prim.Native.Nat.{ℕ}
 
 abbrev pub kinds : ℕ
-kinds = 31
+kinds = 33

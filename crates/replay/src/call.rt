@@ -27,6 +27,8 @@
 //     pattern_of_density DENSITY                    PATTERN, or nothing
 //     narrow D ZUNIQS COUNTS ZUNIQS COUNTS          D ENTRIES ZUNIQS COUNTS
 //     widen D ZUNIQS COUNTS ZUNIQS COUNTS           D ENTRIES ZUNIQS COUNTS
+//     rows_to_columns LENGTH BYTES BYTES            ROWS BYTES
+//     columns_to_rows LENGTH BYTES BYTES            ROWS BYTES
 //
 // The calls on narrow maps, `narrow_to_zuniq` and so on, take and answer what those without `narrow_`
 // do, and `read_narrow_rows` and `write_narrow_rows` what those of count rows do. Their zuniqs and hashes
@@ -68,5 +70,7 @@ pub(crate) fn call(kind: Kind, numbers: &[u64]) -> Answer {
         Kind::WriteNarrowRows => crate::narrow_rows::write_narrow_rows(numbers),
         Kind::Narrow => crate::widths::narrow(numbers),
         Kind::Widen => crate::widths::widen(numbers),
+        Kind::RowsToColumns => crate::layouts::rows_to_columns(numbers),
+        Kind::ColumnsToRows => crate::layouts::columns_to_rows(numbers),
     }
 }

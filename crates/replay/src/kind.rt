@@ -39,6 +39,8 @@ pub enum Kind {
     WriteNarrowRows,
     Narrow,
     Widen,
+    RowsToColumns,
+    ColumnsToRows,
 }
 
 // What a word names.
@@ -47,7 +49,7 @@ pub enum Named {
     Nothing,
 }
 
-pub const KINDS: usize = 31;
+pub const KINDS: usize = 33;
 
 impl Kind {
     // The kind's place in an array with one for each kind.
@@ -86,6 +88,8 @@ impl Kind {
             Kind::WriteNarrowRows => 28,
             Kind::Narrow => 29,
             Kind::Widen => 30,
+            Kind::RowsToColumns => 31,
+            Kind::ColumnsToRows => 32,
         }
     }
 
@@ -122,7 +126,9 @@ impl Kind {
             27 => Kind::ReadNarrowRows,
             28 => Kind::WriteNarrowRows,
             29 => Kind::Narrow,
-            _ => Kind::Widen,
+            30 => Kind::Widen,
+            31 => Kind::RowsToColumns,
+            _ => Kind::ColumnsToRows,
         }
     }
 
@@ -160,6 +166,8 @@ impl Kind {
             Kind::WriteNarrowRows => *b"write_narrow_rows           ",
             Kind::Narrow => *b"narrow                      ",
             Kind::Widen => *b"widen                       ",
+            Kind::RowsToColumns => *b"rows_to_columns             ",
+            Kind::ColumnsToRows => *b"columns_to_rows             ",
         }
     }
 

@@ -30,6 +30,7 @@ mod compare;
 mod densities;
 mod floats;
 mod kind;
+mod layouts;
 mod line;
 mod maps;
 mod mergers;
