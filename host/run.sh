@@ -11,13 +11,13 @@
 # function on random arguments, for about SECONDS of processor time, so half as long on two cores, and
 # the live comparison with the original, for SECONDS in all (60) from SEED (1), half of them for each of
 # the two. The random texts and arguments are drawn from a seed of their own, the same in every run.
-# Last, that the stored answers in crates/replay/stdin are those that the original gives, and that both
-# sides of the benchmark answer alike.
+# Last, that the stored answers in crates/replay/stdin are those that the original gives, that both
+# sides of the benchmark answer alike, and that gzip makes less of a million rows by byte column.
 #
 # The last line is `N passed, M failed` over everything that was counted; the status is 0 where M is 0.
 # Lines `K skipped: WHAT (WHY)` stand before it, K being the number of tests: where docs/src or the
 # crates can't be had, everything beside the original is skipped, and where cargo has no fmt or clippy,
-# that is. Every cargo call is offline (.cargo/config.toml).
+# or the machine no gzip, what asks for it. Every cargo call is offline (.cargo/config.toml).
 set -u
 seconds=${1:-60}
 seed=${2:-1}
@@ -103,7 +103,8 @@ tests_of_part() {
         cat oracle/tests/*.rs differential/tests/*.rs | grep -c '^ *#\[test\]'
         ;;
     "live comparison, "*) grep -c '^ *entry::<' differential/src/kinds/mod.rs ;;
-    "stored answers" | "benchmark, answers only" | "fmt of "* | "clippy of "*) echo 1 ;;
+    "stored answers" | "benchmark, answers only" | "byte columns, compressed" | \
+        "fmt of "* | "clippy of "*) echo 1 ;;
     esac
 }
 
@@ -135,9 +136,9 @@ mombuild_tests() {
         cargo test --quiet --no-fail-fast -- --nocapture
 }
 
-# Fourteen tests, each for a fourteenth of the time.
+# Sixteen tests, each for a sixteenth of the time.
 fuzz() {
-    cd mom && MOM_FUZZ_SECONDS=$(((seconds + 13) / 14)) \
+    cd mom && MOM_FUZZ_SECONDS=$(((seconds + 15) / 16)) \
         cargo test --quiet --release --test fuzz -- --nocapture
 }
 
@@ -150,6 +151,11 @@ stored_answers() {
 bench_answers() {
     cargo build --quiet --release --package bench &&
         target/release/bench --small --rounds 1 > target/bench && echo "1 passed, 0 failed"
+}
+
+# The example of what byte columns are for; it fails where they are not smaller or don't come back.
+columns_example() {
+    cd mom && one cargo run --quiet --release --example columns
 }
 
 # Whether the originals and the crates can be had; says why where they can't.
@@ -210,6 +216,11 @@ if [ $comparable = yes ]; then
     part "benchmark, answers only" bench_answers
 else
     skip "everything beside the original" "$reason" "${beside[@]}"
+fi
+if command -v gzip > /dev/null; then
+    part "byte columns, compressed" columns_example
+else
+    skip "the example of byte columns" "gzip is not on this machine" "byte columns, compressed"
 fi
 
 [ ! -f "$logs/skipped" ] || cat "$logs/skipped"

@@ -1,7 +1,8 @@
 /* The C functions of libmom_c.a: rows and the check and lookup of maps that come as rows, which an
  * ingest process calls; then cells of multi-order maps, their zuniqs, the mergers, the check and
  * lookup of a map's zuniqs, building from counts and from densities, and combining maps; then
- * narrow maps, which dome boxes keep, and moving maps between the two widths.
+ * narrow maps, which dome boxes keep, and moving maps between the two widths; last, rows laid out by
+ * byte column, for disks.
  *
  * A cell is a depth d, 0 to 29, and a hash h below N(d) = 12 * 4^d (HEALPix, nested). Its zuniq is
  * (2h + 1) * 4^(29 - d), a u64; no other u64 is a valid zuniq. The four cells that it consists of
@@ -374,6 +375,22 @@ uint64_t mom_narrow(uint8_t depth, const uint64_t *zuniqs, size_t zl, const uint
 uint64_t mom_widen(uint8_t depth, const uint32_t *zuniqs, size_t zl, const uint32_t *counts,
                    size_t cl, uint64_t *out_zuniqs, size_t ozl, uint32_t *out_counts, size_t ocl,
                    uint8_t *out_depth);
+
+/* ---- Rows laid out by byte column */
+
+/* Lays rows of row_size bytes, which is 8, 12 or 16, out by byte column at the front of columns: all
+ * first bytes stand together, then all second bytes, and so on through the row. Byte j of row i, both
+ * from 0, stands at j * the number of rows + i. The value is the number of rows; bytes past them stay.
+ * Rows are not checked as maps. By a refusal the columns are left as they were.
+ * Refuses by 4: row_size is none of these, or rl is no multiple of it; then by 11: cl is below rl. */
+uint64_t mom_rows_to_columns(size_t row_size, const uint8_t *rows, size_t rl, uint8_t *columns,
+                             size_t cl);
+
+/* The way back, from byte columns to rows at the front of rows: what was laid out is there again. The
+ * value is the number of rows; bytes past them stay. By a refusal the rows are left as they were.
+ * Refuses by 4: row_size is none of these, or cl is no multiple of it; then by 11: rl is below cl. */
+uint64_t mom_columns_to_rows(size_t row_size, const uint8_t *columns, size_t cl, uint8_t *rows,
+                             size_t rl);
 
 #ifdef __cplusplus
 }

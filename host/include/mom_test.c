@@ -550,6 +550,72 @@ static void widening(void) {
            depth == 0 && zuniqs[0] == UINT64_C(1) << 58, "widening from depth 0");
 }
 
+/* Byte j of row i is 16 * i + j, in three rows of so many bytes and in the columns of them. */
+static void lay_out(size_t row_size, uint8_t *rows, uint8_t *columns) {
+    for (size_t i = 0; i < 3; i++) {
+        for (size_t j = 0; j < row_size; j++) {
+            rows[row_size * i + j] = columns[3 * j + i] = (uint8_t)(16 * i + j);
+        }
+    }
+}
+
+/* Both ways between three rows and their columns, into buffers of 77s that are two bytes longer. */
+static void there_and_back(size_t row_size, const char *what) {
+    const size_t len = 3 * row_size;
+    uint8_t rows[48], columns[48], out[50], back[50];
+
+    lay_out(row_size, rows, columns);
+    memset(out, 77, sizeof out);
+    memset(back, 77, sizeof back);
+    expect(answers(mom_rows_to_columns(row_size, rows, len, out, len + 2), MOM_ACCEPTED, 3) &&
+           memcmp(out, columns, len) == 0 && out[len] == 77 && out[len + 1] == 77, what);
+    expect(answers(mom_columns_to_rows(row_size, out, len, back, len + 2), MOM_ACCEPTED, 3) &&
+           memcmp(back, rows, len) == 0 && back[len] == 77 && back[len + 1] == 77, what);
+}
+
+/* Neither way is taken from len bytes into outlen, and the output stays. */
+static int not_laid_out(size_t row_size, size_t len, size_t outlen, uint8_t number) {
+    const uint8_t in[48] = {0};
+    uint8_t out[48], before[48];
+
+    memset(out, 77, sizeof out);
+    memset(before, 77, sizeof before);
+    return answers(mom_rows_to_columns(row_size, in, len, out, outlen), number, 0) &&
+           answers(mom_columns_to_rows(row_size, in, len, out, outlen), number, 0) &&
+           memcmp(out, before, sizeof out) == 0;
+}
+
+static void byte_columns(void) {
+    /* Two rows, and the columns of them: first bytes, second bytes, and so on. */
+    const uint8_t rows[16] = {1, 2, 3, 4, 5, 6, 7, 8, 11, 12, 13, 14, 15, 16, 17, 18};
+    const uint8_t columns[16] = {1, 11, 2, 12, 3, 13, 4, 14, 5, 15, 6, 16, 7, 17, 8, 18};
+    uint8_t out[16];
+
+    expect(answers(mom_rows_to_columns(8, rows, 16, out, 16), MOM_ACCEPTED, 2) &&
+           memcmp(out, columns, 16) == 0, "the columns of two rows");
+    expect(answers(mom_columns_to_rows(8, columns, 16, out, 16), MOM_ACCEPTED, 2) &&
+           memcmp(out, rows, 16) == 0, "the rows of their columns");
+    there_and_back(MOM_NARROW_ROW, "three rows of 8 bytes and their columns");
+    there_and_back(MOM_COUNT_ROW, "three rows of 12 bytes and their columns");
+    there_and_back(MOM_DENSITY_ROW, "three rows of 16 bytes and their columns");
+    expect(answers(mom_rows_to_columns(12, rows, 0, out, 16), MOM_ACCEPTED, 0) &&
+           answers(mom_columns_to_rows(12, columns, 0, out, 0), MOM_ACCEPTED, 0) &&
+           memcmp(out, rows, 16) == 0, "the columns of no rows");
+
+    expect(not_laid_out(0, 0, 48, MOM_LENGTHS_DIFFER) && not_laid_out(0, 48, 48, MOM_LENGTHS_DIFFER),
+           "columns of rows of no bytes");
+    expect(not_laid_out(4, 48, 48, MOM_LENGTHS_DIFFER), "columns of rows of 4 bytes");
+    expect(not_laid_out(13, 39, 48, MOM_LENGTHS_DIFFER), "columns of rows of 13 bytes");
+    expect(not_laid_out(SIZE_MAX, 0, 48, MOM_LENGTHS_DIFFER), "columns of rows of SIZE_MAX bytes");
+    expect(not_laid_out(8, 47, 48, MOM_LENGTHS_DIFFER) &&
+           not_laid_out(12, 40, 48, MOM_LENGTHS_DIFFER) &&
+           not_laid_out(16, 24, 48, MOM_LENGTHS_DIFFER), "columns of an uneven length");
+    expect(not_laid_out(8, 48, 47, MOM_NO_SPACE) && not_laid_out(12, 48, 47, MOM_NO_SPACE) &&
+           not_laid_out(16, 48, 0, MOM_NO_SPACE), "columns into too few bytes");
+    expect(not_laid_out(4, 48, 0, MOM_LENGTHS_DIFFER) && not_laid_out(8, 47, 0, MOM_LENGTHS_DIFFER),
+           "columns of what is no whole rows into too few bytes");
+}
+
 int main(void) {
     uint64_t n_hash = 5, zuniq = 5, hash = 5;
     uint8_t depth = 5;
@@ -704,6 +770,7 @@ int main(void) {
     narrow_adding();
     narrowing();
     widening();
+    byte_columns();
 
     printf("%d passed, %d failed\n", passed, failed);
     return failed > 0;

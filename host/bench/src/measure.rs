@@ -86,3 +86,30 @@ pub fn row_with_extra(
         (a - checks - clearing) / b
     );
 }
+
+pub fn heading_with_copy(group: &str, one: &str, many: &str) {
+    println!(
+        "\n## {group}\n\n| work | {many} | ours, ns a {one} | Rust, ns a {one} | ratio | ours, GB/s | \
+         copy, GB/s |"
+    );
+    println!("|---|---:|---:|---:|---:|---:|---:|");
+}
+
+/// A row of so many bytes for each one. The copy is a plain one of all these bytes, which says what
+/// the memory allows: a byte that is read and written counts once.
+pub fn row_with_copy(
+    work: &str,
+    number: usize,
+    bytes: usize,
+    (ours, original): (Duration, Duration),
+    copy: Duration,
+) {
+    let (a, b) = (each(ours, number), each(original, number));
+    let speed = |time| bytes as f64 / each(time, number);
+    println!(
+        "| {work} | {number} | {a:.2} | {b:.2} | {:.2} | {:.2} | {:.2} |",
+        a / b,
+        speed(ours),
+        speed(copy)
+    );
+}

@@ -6,7 +6,7 @@ use differential::{
     cells::{cells_to, n_hash, Cell, DEPTH_MAX},
     compare::Kind,
     floats::Float,
-    kinds::MoveInput,
+    kinds::{LayOutInput, MoveInput},
     lists::{Add, Build, Input, Value},
     maps::Map,
     quads::{unit_density, Call, Quad, PARENT_DEPTH_MAX},
@@ -521,4 +521,66 @@ fn no_refusal_and_no_kind_of_moving_is_rare() {
         }),
     ]);
     assert_none_is_rare(drawn_moves(), &classes);
+}
+
+/// Whether the call is accepted, and its rows are as `is` asks: how long one is, and how many they are.
+fn is_laid_out(input: &LayOutInput, is: impl Fn(usize, usize) -> bool) -> bool {
+    let accepted = input.refusal().is_none();
+    accepted && is(input.row_size, input.bytes.len() / input.row_size)
+}
+
+fn is_named(input: &LayOutInput) -> bool {
+    [8, 12, 16].contains(&input.row_size)
+}
+
+fn is_whole(input: &LayOutInput) -> bool {
+    input.bytes.len().checked_rem(input.row_size) == Some(0)
+}
+
+const ACCEPTED_LAYOUTS: &[Class<LayOutInput>] = &[
+    ("8 bytes", |input| is_laid_out(input, |size, _| size == 8)),
+    ("12 bytes", |input| is_laid_out(input, |size, _| size == 12)),
+    ("16 bytes", |input| is_laid_out(input, |size, _| size == 16)),
+    ("no rows", |input| is_laid_out(input, |_, rows| rows == 0)),
+    ("one row", |input| is_laid_out(input, |_, rows| rows == 1)),
+    ("256 rows", |input| {
+        is_laid_out(input, |_, rows| rows == 256)
+    }),
+    ("over 256 rows", |input| {
+        is_laid_out(input, |_, rows| rows > 256)
+    }),
+    ("just as long", |input| {
+        is_laid_out(input, |_, _| input.places == input.bytes.len())
+    }),
+    ("longer, not of zeros", |input| {
+        input.content > 0 && is_laid_out(input, |_, _| input.places > input.bytes.len())
+    }),
+];
+
+const REFUSED_LAYOUTS: &[Class<LayOutInput>] = &[
+    ("rows of no bytes", |input| input.row_size == 0),
+    ("whole rows of 4 bytes", |input| {
+        input.row_size == 4 && is_whole(input) && !input.bytes.is_empty()
+    }),
+    ("whole rows not named", |input| {
+        is_whole(input) && !is_named(input)
+    }),
+    ("no whole rows", |input| is_named(input) && !is_whole(input)),
+    ("11", |input| input.refusal() == Some(Refusal::NoSpace)),
+    ("11 by one byte", |input| {
+        input.refusal() == Some(Refusal::NoSpace) && input.places + 1 == input.bytes.len()
+    }),
+    ("4 and 11", |input| {
+        let refused = input.refusal() == Some(Refusal::LengthMismatch);
+        refused && input.places < input.bytes.len()
+    }),
+];
+
+#[test]
+fn no_refusal_and_no_kind_of_laying_out_is_rare() {
+    for classes in [ACCEPTED_LAYOUTS, REFUSED_LAYOUTS] {
+        let mut random = Random::new(17);
+        let drawn = (0..DRAWN / 4).map(|_| LayOutInput::random(&mut random));
+        assert_none_is_rare(drawn, classes);
+    }
 }

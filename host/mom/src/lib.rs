@@ -4,8 +4,8 @@
 //! zuniq is (2 × hash + 1) × 4^(29 − depth). The values of four children of one cell may be merged
 //! into one of their parent. A map of a depth is given by its zuniqs: it is valid where each is a
 //! valid zuniq, none is of a deeper cell, they rise strictly and no two of their cells overlap. In
-//! [`rows`] it comes as bytes. A [`narrow`] map has u32 zuniqs and a depth of at most 13; [`moving`]
-//! goes from one width to the other.
+//! [`rows`] it comes as bytes, which [`columns`] lays out by byte column for a disk. A [`narrow`] map
+//! has u32 zuniqs and a depth of at most 13; [`moving`] goes from one width to the other.
 //! Nothing here panics, whatever the arguments: a call that can't be answered is refused, and a
 //! [`Refusal`] says in words why, and has the number and the place of the scope's table.
 //!
@@ -20,6 +20,7 @@
 //! assert_eq!(merge(3.0), mom::CountMerge::Kept(3.0));
 //! ```
 
+pub mod columns;
 mod combining;
 pub mod moving;
 pub mod narrow;

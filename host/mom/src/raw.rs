@@ -1,7 +1,9 @@
 //! The functions of libmom_c.a as host/include/mom.h declares them, and the word that each answers.
 //! A new function is declared here and gets its safe form in lib.rs. Those of the ingest process are
-//! in raw/rows.rs and rows.rs, those of narrow maps in raw/narrow.rs and narrow.rs.
+//! in raw/rows.rs and rows.rs, those of narrow maps in raw/narrow.rs and narrow.rs, those of byte
+//! columns in raw/columns.rs and columns.rs.
 
+pub mod columns;
 pub mod narrow;
 pub mod rows;
 

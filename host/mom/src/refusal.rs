@@ -16,8 +16,8 @@ pub enum Refusal {
     /// 3: the chi-square threshold T is NaN, or the factor k of a product is NaN, infinite or
     /// below 0.
     InvalidThresholdOrFactor,
-    /// 4: paired buffers differ in length, a stated number exceeds its buffer, or row bytes to be
-    /// read are no whole number of rows.
+    /// 4: paired buffers differ in length, a stated number exceeds its buffer, row bytes are no whole
+    /// number of rows, or a row length is none of 8, 12 and 16.
     LengthMismatch,
     /// 5: a held or given map is invalid at this entry.
     InvalidMap(usize),
@@ -109,8 +109,8 @@ impl Refusal {
                 "the chi-square threshold T is NaN, or the factor k is NaN, infinite or below 0"
             }
             Refusal::LengthMismatch => {
-                "paired buffers differ in length, a stated number exceeds its buffer, or row bytes \
-                 to be read don't divide evenly"
+                "paired buffers differ in length, a stated number exceeds its buffer, row bytes \
+                 don't divide evenly, or a row length is none of 8, 12 and 16"
             }
             Refusal::InvalidMap(_) => "a held or given map is invalid at this entry",
             Refusal::InvalidMapDensity(_) => {

@@ -1,6 +1,7 @@
 //! The works that are timed. Each is first done once by both, and the answers are held together.
 
 pub mod adding;
+pub mod columns;
 pub mod combining;
 pub mod growth;
 pub mod lookup;
@@ -23,7 +24,7 @@ pub struct Group {
     pub run: fn(Plan),
 }
 
-pub const GROUPS: [Group; 7] = [
+pub const GROUPS: [Group; 8] = [
     Group {
         name: "adding",
         run: adding::run,
@@ -43,6 +44,10 @@ pub const GROUPS: [Group; 7] = [
     Group {
         name: "moving",
         run: moving::run,
+    },
+    Group {
+        name: "columns",
+        run: columns::run,
     },
     Group {
         name: "mombuild",

@@ -1,10 +1,12 @@
-//! Every kind of comparison, in the order of the scope's sections; then those of narrow maps.
+//! Every kind of comparison, in the order of the scope's sections; then those of narrow maps, and of rows
+//! laid out by byte column.
 
 mod add_counts;
 mod add_densities;
 mod are_overlapping;
 mod check_is_mom;
 mod chi;
+mod columns;
 mod count_merger;
 mod density_merger;
 mod density_of_count;
@@ -29,6 +31,7 @@ use crate::{
 pub use are_overlapping::AreOverlapping;
 pub use check_is_mom::{told, CheckIsMom};
 pub use chi::{CountChi, DensityChi};
+pub use columns::{Input as LayOutInput, LayOut, Step as LayOutStep, ToColumns, ToRows, Way};
 pub use count_merger::CountMerger;
 pub use density_merger::DensityMerger;
 pub use density_of_count::DensityOfCount;
@@ -98,4 +101,6 @@ pub static KINDS: &[Entry] = &[
     entry::<Move<u32>>(),
     entry::<MoveBuilt<u64>>(),
     entry::<MoveBuilt<u32>>(),
+    entry::<LayOut<ToColumns>>(),
+    entry::<LayOut<ToRows>>(),
 ];

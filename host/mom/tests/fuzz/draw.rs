@@ -36,6 +36,16 @@ pub struct CombineCall {
     pub k: f64,
 }
 
+/// The arguments of a call between rows and byte columns.
+#[derive(Clone, Debug)]
+pub struct LayoutCall {
+    pub row_size: usize,
+    pub input: Vec<u8>,
+    /// The output, with bytes round it that are not lent.
+    pub output: Vec<u8>,
+    pub lent: Range<usize>,
+}
+
 /// (2h + 1) × 4^(K − d), K being the largest depth.
 fn zuniq_of<Z: Zuniq>(depth: u8, hash: u64) -> Z {
     Z::of((2 * hash + 1) << (2 * (Z::MAX_DEPTH - depth)))
@@ -172,7 +182,11 @@ impl Draw {
             0 => self.below(80),
             _ => sizes[self.below(sizes.len())] * self.below(8),
         };
-        (0..length).map(|_| self.bits() as u8).collect()
+        self.bytes_of(length)
+    }
+
+    fn bytes_of(&mut self, number: usize) -> Vec<u8> {
+        (0..number).map(|_| self.bits() as u8).collect()
     }
 
     /// Count rows, now and then with a byte less or too many of them.
@@ -379,6 +393,36 @@ impl Draw {
             side.zuniqs[place..].rotate_right(1);
         }
         side
+    }
+
+    /// Mostly whole rows of a length that is named, and an output that is long enough.
+    pub fn layout_call(&mut self) -> LayoutCall {
+        let row_size = match self.below(8) {
+            0 => self.below(40),
+            1 if self.one_in(4) => self.few_bits::<u64>() as usize,
+            _ => [8, 12, 16][self.below(3)],
+        };
+        let rows = match self.below(8) {
+            0 => self.below(300),
+            1 => (1 << self.below(9)) - 1 + self.below(3),
+            _ => self.below(20),
+        };
+        let more = if self.one_in(8) { self.below(16) } else { 0 };
+        let length = row_size.min(40) * rows + more;
+        let places = match self.below(8) {
+            0 => self.below(length + 1),
+            1 => length.saturating_sub(1),
+            2..=4 => length,
+            _ => length + self.below(20),
+        };
+        let first = self.below(16);
+        let around = first + places + self.below(16);
+        LayoutCall {
+            row_size,
+            input: self.bytes_of(length),
+            output: self.bytes_of(around),
+            lent: first..first + places,
+        }
     }
 
     /// The zuniqs of an output and the number of its values, mostly enough for so many cells.

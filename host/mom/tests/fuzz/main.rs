@@ -4,6 +4,7 @@
 //!
 //! Each test makes a thousand rounds, and goes on for as long as MOM_FUZZ_SECONDS says.
 
+mod columns;
 mod draw;
 mod moving;
 mod narrow;

@@ -5,7 +5,7 @@ use std::{fmt::Debug, ops::Range};
 
 use mom::{Fault, MapCheck, Refusal};
 
-use super::draw::{AddCall, CombineCall, Side};
+use super::draw::{AddCall, CombineCall, LayoutCall, Side};
 
 type Cell = (u8, u64);
 type Answer<T> = Result<T, Refusal>;
@@ -646,4 +646,33 @@ pub fn moved<Z: Zuniq, Y: Zuniq>(
         }
         Err(refusal) => (Err(refusal), z.to_vec(), n.to_vec()),
     }
+}
+
+// ---- Request 3
+
+/// A byte's place in the rows and in the columns, of so many rows of so many bytes: "Byte j of row i
+/// stands at j × rows + i."
+fn places(row_size: usize, rows: usize) -> impl Iterator<Item = (usize, usize)> {
+    (0..rows).flat_map(move |i| (0..row_size).map(move |j| (i * row_size + j, j * rows + i)))
+}
+
+/// The answer and the output after it, from rows to columns or else back. "An uneven length, or a row
+/// length not named here, is number 4; an output shorter than the input is 11."
+pub fn laid_out(call: &LayoutCall, from_rows: bool) -> (Answer<usize>, Vec<u8>) {
+    let (row_size, length) = (call.row_size, call.input.len());
+    let mut output = call.output.clone();
+    let whole_rows = [8, 12, 16].contains(&row_size) && length % row_size == 0;
+    let answer = refuse_if(!whole_rows, 4, 0).and(refuse_if(call.lent.len() < length, 11, 0));
+    if let Err(refusal) = answer {
+        return (Err(refusal), output);
+    }
+    let rows = length / row_size;
+    for (in_rows, in_columns) in places(row_size, rows) {
+        let (from, to) = match from_rows {
+            true => (in_rows, in_columns),
+            false => (in_columns, in_rows),
+        };
+        output[call.lent.start + to] = call.input[from];
+    }
+    (Ok(rows), output)
 }
