@@ -1,4 +1,5 @@
 pub mod Floats
 pub mod Accept
+pub mod Blank
 pub mod Counts
 pub mod Densities

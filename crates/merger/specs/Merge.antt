@@ -1,9 +1,9 @@
--- Section 2 of the scope: what the two mergers make of four children. "M (0 to 29) is the shallowest parent depth at which
+-- Section 2 of the scope, and note 4 of 02: what the two mergers make of four children. "M (0 to 29) is the shallowest parent depth at which
 -- merging is allowed; T is an f64." p and h are the parent's depth and hash; no rule looks at h.
 use mathlib.Core.Bool.{Bool, _&&_, cond}
 use mathlib.Core.Option.{Option, none, some}
 use Prim.Native.Nat.{ℕ, _+_}
-use lib.Dec.{leb, ltb}
+use lib.Dec.{eqb, leb, ltb}
 use lib.Ieee.{Float, isNan, lt}
 use Rattle.zuniq.specs.Cells.{nHash}
 use Rattle.refusal.specs.declared.Refusal.{Refusal}
@@ -37,10 +37,18 @@ chiOfCounts n0 n1 n2 n3 = excess (sumOf (float n0) (float n1) (float n2) (float 
 
 -- "the parent's count is the whole-number sum"; the four are kept, "carrying the chi it found, which is worked out even where
 -- the parent depth is below M"
-unfoldable pub mergeCounts : (M : ℕ) (T : Float) (p h n0 n1 n2 n3 : ℕ) → CountMerge
-mergeCounts M T p h n0 n1 n2 n3 =
+unfoldable pub mergeByChi : (M : ℕ) (T : Float) (p h n0 n1 n2 n3 : ℕ) → CountMerge
+mergeByChi M T p h n0 n1 n2 n3 =
     let chi = chiOfCounts n0 n1 n2 n3 in
     cond (merges M T p chi) (CountMerge.Merged (n0 + n1 + n2 + n3)) (CountMerge.Kept chi)
+
+-- note 4 of 02: "Four siblings of count 0"
+abbrev pub blank : (n0 n1 n2 n3 : ℕ) → Bool
+blank n0 n1 n2 n3 = eqb n0 0 && (eqb n1 0 && (eqb n2 0 && eqb n3 0))
+
+-- they "now merge at any T, where the parent depth is at least M"; all else is merged by chi, as ever
+unfoldable pub mergeCounts : (M : ℕ) (T : Float) (p h n0 n1 n2 n3 : ℕ) → CountMerge
+mergeCounts M T p h n0 n1 n2 n3 = cond (leb M p && blank n0 n1 n2 n3) (CountMerge.Merged 0) (mergeByChi M T p h n0 n1 n2 n3)
 
 -- the count of a merge, if there is one
 unfoldable pub mergedCount : CountMerge → Option ℕ
@@ -50,6 +58,10 @@ mergedCount (CountMerge.Kept chi) = none
 -- "the merger accepts their values": the parent's count, or none
 unfoldable pub acceptCounts : (M : ℕ) (T : Float) (p h n0 n1 n2 n3 : ℕ) → Option ℕ
 acceptCounts M T p h n0 n1 n2 n3 = mergedCount (mergeCounts M T p h n0 n1 n2 n3)
+
+-- the same of the merger before note 4, against which its laws are said
+unfoldable pub acceptByChi : (M : ℕ) (T : Float) (p h n0 n1 n2 n3 : ℕ) → Option ℕ
+acceptByChi M T p h n0 n1 n2 n3 = mergedCount (mergeByChi M T p h n0 n1 n2 n3)
 
 -- the count merger, refused by 1, 2, 3 and 10
 unfoldable pub countMerger : (M : ℕ) (T : Float) (p n0 n1 n2 n3 : ℕ) → CountMerger

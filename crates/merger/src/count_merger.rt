@@ -1,7 +1,7 @@
 // The count merger.
 ghost use mathlib.Core.Path.{_≡_};
 ghost use Prim.Native.Nat.{_+_, _≤_};
-ghost use Rattle.merger.specs.Merge.{chiOfCounts, mergeCounts, countMerger};
+ghost use Rattle.merger.specs.Merge.{chiOfCounts, blank, mergeCounts, countMerger};
 use super::CountMerge;
 use super::CountMerger;
 use super::MAX_PARENT_DEPTH;
@@ -49,7 +49,9 @@ pub fn chi2_count_merger(
     ))
 }
 
-// The count merger for four counts whose sum fits a u32.
+// The count merger for four counts whose sum fits a u32. Blank sky is merged at any T: its chi-square
+// is 0, and a T of 0 or less would keep it. It is looked for last, among what would be kept, so that
+// who merges by the chi-square pays nothing for it.
 pub fn merge_counts(
     parent_depth: u8,
     parent_hash: u64,
@@ -67,7 +69,18 @@ pub fn merge_counts(
     if merges(parent_depth, depth_threshold, chi2_threshold, chi2) {
         return CountMerge::Merged(n0 + n1 + n2 + n3);
     }
+    if parent_depth >= depth_threshold && are_blank(n0, n1, n2, n3) {
+        return CountMerge::Merged(0);
+    }
     CountMerge::Kept(chi2)
+}
+
+// Whether there is no source in any of the four. Most quads are told by the first.
+fn are_blank(n0: u32, n1: u32, n2: u32, n3: u32) -> bool
+    requires { ⌜ n0 + n1 + n2 + n3 ≤ 4294967295 ⌝ }
+    ensures { λ r. ⌜ r ≡ blank n0 n1 n2 n3 ⌝ }
+{
+    n0 == 0 && n1 + n2 + n3 == 0
 }
 
 // The chi-square of four counts about their common mean, after Pineau et al. 2017. A count n_i has

@@ -1,9 +1,9 @@
-// The mergers of four siblings into their parent: section 2 of the scope.
+// The mergers of four siblings into their parent: section 2 of the scope, and blank sky (note 4 of 02).
 //
 // Four siblings are merged where the parent's depth is at least M, the depth threshold, and their
-// chi-square, with 3 degrees of freedom, is strictly below T, the chi-square threshold. The merged
-// count is the sum, the merged density a quarter of the sum. Otherwise the four are kept, and the
-// answer carries the chi-square that was found.
+// chi-square, with 3 degrees of freedom, is strictly below T, the chi-square threshold. Four counts of
+// 0 are merged at any T. The merged count is the sum, the merged density a quarter of the sum.
+// Otherwise the four are kept, and the answer carries the chi-square that was found.
 //
 // `chi2_count_merger` and `chi2_density_merger` refuse, in this order: a parent depth over 28 (number
 // 1), M over 29 (2), T a NaN (3), a density that is NaN, infinite or below 0 (9, place: the child; -0
