@@ -3,8 +3,8 @@ use mathlib.Core.Path.{_≡_, refl, ap, ap₂, sym, _∙_, subst}
 use mathlib.Core.Bool.{true}
 use mathlib.Core.List.{List, [], _∷_, map, reverse, reverse-reverse}
 use mathlib.Core.Logic.{_↔_, inl, inr, ⊎-elim}
-use mathlib.Core.Option.{Option, none, some}
-use Prim.Native.Nat.{ℕ, _+_, _≤_, max}
+use mathlib.Core.Option.{Option, none, some, Option·some-ne-none}
+use Prim.Native.Nat.{ℕ, _+_, _≤_, _<_, max}
 use native.Mathlib.Omega.{arith}
 use lib.Ieee.{Float}
 use lib.ListN.{length, take, length-reverse}
@@ -12,12 +12,14 @@ use Rattle.mom.specs.Map.{firstFault}
 use Rattle.mom.proofs.Faults.{no-fault-iff-valid}
 use Rattle.zuniq.specs.Cells.{nHash, liesIn}
 use Rattle.refusal.specs.declared.Refusal.{Refusal}
+use Rattle.zuniq.proofs.Basics.{le-or-lt}
 use Rattle.zuniq.proofs.Ranges.{lies-in-self, lies-in-same-depth}
 use Rattle.merger.specs.Merge.{acceptCounts}
-use Rattle.merger.proofs.Accept.{accepted-count-is-sum}
+use Rattle.merger.proofs.Accept.{accept-counts-iff-merged, accepted-count-is-sum}
+use Rattle.merger.proofs.Blank.{blank-merges}
 use Rattle.build.specs.Map.{Entry}
 use Rattle.build.specs.Add.{mapRefusal}
-use Rattle.build.specs.Stack.{run}
+use Rattle.build.specs.Stack.{run, child}
 use Rattle.build.specs.Buffers.{zuniqOf, valueOf, laid, zuniqBuffer, valueBuffer, held}
 use Rattle.build.specs.Promises.{Any, Has, Rises, Covers, Sums}
 use Rattle.build.specs.Calls.{Buffers, Batch, Answer, Calls, cells, holding, answered, addCall, addCalls, joinedMap, judge, joinBy, joinCalls, left}
@@ -137,6 +139,13 @@ module _ (K : ℕ) (a : AddCalls) where
         settled = no-acceptable-quad-left accept (a .D) (joinedList K a) rising;
         reported = report-is;
       }
+
+  -- No four blank siblings remain whose parent's depth is at least M, whatever T is (note 4 of 02).
+  pub no-blank-siblings : (d h : ℕ) → Has (mapOf K a) (child d h 0 0) → Has (mapOf K a) (child d h 1 0) → Has (mapOf K a) (child d h 2 0) → Has (mapOf K a) (child d h 3 0) → d < a .M
+  no-blank-siblings d h c0 c1 c2 c3 = ⊎-elim (λ l. absurd (merged l)) (λ l. l) (le-or-lt (a .M) d)
+    where
+      merged : a .M ≤ d → ⊥
+      merged l = Option·some-ne-none 0 (sym (accept-counts-iff-merged (a .M) (a .T) d h 0 0 0 0 0 .1 (blank-merges (a .M) (a .T) d h l)) ∙ add-calls-claim .settled d h 0 0 0 0 c0 c1 c2 c3)
 
   -- At depth 0 the map is the accepted cells, joined.
   pub base-cells-joined : a .D ≡ 0 → mapOf K a ≡ joinedList K a

@@ -8,14 +8,14 @@ use lib.Dec.{eqb}
 use lib.IntN.{pos, negsuc}
 use lib.ListN.{length}
 use lib.Ieee as Ieee
-use lib.Ieee.{Float, inf, fin, isNan}
+use lib.Ieee.{Float, nan, inf, fin, isNan}
 use Rattle.zuniq.specs.Cells.{nHash, liesIn, overlap}
 use Rattle.refusal.specs.Refusals.{numberOf, placeOf}
 use Rattle.zuniq.specs.Codec.{zuniq, encode, hashAt, isZuniqAt, cellUpTo, decode, overlapOf, overlapTest}
 use Rattle.zuniq.specs.declared.Encoded.{Encoded}
 use Rattle.zuniq.specs.declared.Decoded.{Decoded}
-use Rattle.merger.specs.Floats.{0·0}
-use Rattle.merger.specs.Merge.{chiOfCounts, mergeCounts, mergedCount, acceptCounts, countMerger}
+use Rattle.merger.specs.Floats.{0·0, 1·0}
+use Rattle.merger.specs.Merge.{chiOfCounts, mergeByChi, mergeCounts, mergedCount, acceptCounts, countMerger}
 use Rattle.merger.specs.declared.CountMerge.{CountMerge}
 use Rattle.merger.specs.declared.CountMerger.{CountMerger}
 use Rattle.mom.specs.Map.{isYes, overlaps, faultAfter, faultOf, faultAt, atOr, faultFrom, firstFault}
@@ -105,7 +105,7 @@ mergedTo n (CountMerger.Refused r) = false
 
 -- ---- section 2: "M=0 from here on unless given"; the parent depth is 1
 pub section2 : List Bool
-unfolding keptWith mergedTo 3·0 3·5 5·0 6·0 countMerger mergeCounts chiOfCounts Ieee.add Ieee.sub Ieee.mul Ieee.div Ieee.ofInt Ieee.lt Ieee.eq isNan
+unfolding keptWith mergedTo 3·0 3·5 5·0 6·0 countMerger mergeCounts mergeByChi chiOfCounts Ieee.add Ieee.sub Ieee.mul Ieee.div Ieee.ofInt Ieee.lt Ieee.eq isNan
 section2 =
     -- "1,2,4,4: chi 3, kept at T=3, merged to 11 at 3.5"
     Ieee.eq (chiOfCounts 1 2 4 4) 3·0
@@ -139,7 +139,7 @@ times (suc n) a = a ∷ times n a
 
 -- ---- section 4
 pub section4 : List Bool
-unfolding isMap from times 3·5 joined listed whole tops definedMap batch acceptCounts mergedCount mergeCounts chiOfCounts Ieee.add Ieee.sub Ieee.mul Ieee.div Ieee.ofInt Ieee.lt
+unfolding isMap from times 3·5 joined listed whole tops definedMap batch acceptCounts mergedCount mergeCounts mergeByChi chiOfCounts Ieee.add Ieee.sub Ieee.mul Ieee.div Ieee.ofInt Ieee.lt
 section4 =
     -- "D=2, cells 0 to 15 of count 1, T=3.5: (0,0) 16"
     isMap (definedMap (acceptCounts 0 3·5) 2 (batch 2 (from 16 0) (times 16 1))) (0 ∷ 0 ∷ 16 ∷ [])
@@ -156,7 +156,7 @@ section4 =
 
 -- ---- section 5
 pub section5 : List Bool
-unfolding isMap 2·0 3·5 joined listed whole tops definedMap someEntry fits part valueIn overlayIn overlay kept combined splitCount liesIn overlap acceptCounts mergedCount mergeCounts chiOfCounts Ieee.add Ieee.sub Ieee.mul Ieee.div Ieee.ofInt Ieee.lt
+unfolding isMap 2·0 3·5 joined listed whole tops definedMap someEntry fits part valueIn overlayIn overlay kept combined splitCount liesIn overlap acceptCounts mergedCount mergeCounts mergeByChi chiOfCounts Ieee.add Ieee.sub Ieee.mul Ieee.div Ieee.ofInt Ieee.lt
 section5 =
     -- "Pool of (0,0) 10 and (1,1) 3 at T=2: 3, 6, 2, 2"
     isMap (definedPool (acceptCounts 0 2·0) 1 (entry 0 0 10 ∷ []) (entry 1 1 3 ∷ [])) (1 ∷ 0 ∷ 3 ∷ 1 ∷ 1 ∷ 6 ∷ 1 ∷ 2 ∷ 2 ∷ 1 ∷ 3 ∷ 2 ∷ [])
@@ -166,7 +166,7 @@ section5 =
 
 -- ---- note 1 of 02
 pub note1 : List Bool
-unfolding isMap from times joined listed whole tops definedMap batch acceptCounts mergedCount mergeCounts chiOfCounts Ieee.add Ieee.sub Ieee.mul Ieee.div Ieee.ofInt Ieee.lt
+unfolding isMap from times joined listed whole tops definedMap batch acceptCounts mergedCount mergeCounts mergeByChi chiOfCounts Ieee.add Ieee.sub Ieee.mul Ieee.div Ieee.ofInt Ieee.lt
 note1 =
     -- "each cell stays as it is, since there is no parent": D=0, the twelve cells of count 1, T infinite
     isMap (definedMap (acceptCounts 0 (inf false)) 0 (batch 0 (from 12 0) (times 12 1)))
@@ -266,7 +266,39 @@ note3 =
     ∷ refusesRows 4 (columnsToRows 16 (from 17 1) (times 16 9))
     ∷ []
 
+-- ---- what a row of note 4 says
+-- the count merger is refused by this number, with place 0
+refusesFour : ℕ → CountMerger → Bool
+refusesFour number (CountMerger.Answer m) = false
+refusesFour number (CountMerger.Refused r) = eqb (numberOf r) number && eqb (placeOf r) 0
+
+−1·0 : Float
+−1·0 = fin true 1 (pos 0)
+
+-- ---- note 4 of 02: blank sky; the parent depth is 1, and M = 0 unless given
+pub note4 : List Bool
+unfolding keptWith mergedTo refusesFour −1·0 isMap from times joined listed whole tops definedMap batch someEntry fits part valueIn overlayIn overlay kept combined splitCount liesIn overlap acceptCounts mergedCount countMerger mergeCounts mergeByChi chiOfCounts Ieee.add Ieee.sub Ieee.mul Ieee.div Ieee.ofInt Ieee.lt Ieee.eq isNan
+note4 =
+    -- "Four siblings of count 0 now merge at any T": 0, −1, −∞
+    mergedTo 0 (countMerger 0 0·0 1 0 0 0 0)
+    ∷ mergedTo 0 (countMerger 0 −1·0 1 0 0 0 0)
+    ∷ mergedTo 0 (countMerger 0 (inf true) 1 0 0 0 0)
+    -- "where the parent depth is at least M": at M they merge, below it they are kept, with chi 0
+    ∷ mergedTo 0 (countMerger 1 0·0 1 0 0 0 0)
+    ∷ keptWith 0·0 (countMerger 2 0·0 1 0 0 0 0)
+    ∷ keptWith 0·0 (countMerger 2 (inf false) 1 0 0 0 0)
+    -- nothing else changes: 4,4,4,4 and three blanks with a 1 are kept at T = 0, and a NaN is refused
+    ∷ keptWith 0·0 (countMerger 0 0·0 1 4 4 4 4)
+    ∷ keptWith 1·0 (countMerger 0 0·0 1 0 0 0 1)
+    ∷ refusesFour 3 (countMerger 0 nan 1 0 0 0 0)
+    -- "building and pooling take it over": D = 2, sixteen blank cells at T = 0 are (0,0) 0, and with M = 1 four of depth 1
+    ∷ isMap (definedMap (acceptCounts 0 0·0) 2 (batch 2 (from 16 0) (times 16 0))) (0 ∷ 0 ∷ 0 ∷ [])
+    ∷ isMap (definedMap (acceptCounts 1 0·0) 2 (batch 2 (from 16 0) (times 16 0))) (1 ∷ 0 ∷ 0 ∷ 1 ∷ 1 ∷ 0 ∷ 1 ∷ 2 ∷ 0 ∷ 1 ∷ 3 ∷ 0 ∷ [])
+    -- pool of (0,0) 0 and (1,1) 0 at T = 0: (0,0) 0
+    ∷ isMap (definedPool (acceptCounts 0 0·0) 1 (entry 0 0 0 ∷ []) (entry 1 1 0 ∷ [])) (0 ∷ 0 ∷ 0 ∷ [])
+    ∷ []
+
 -- ---- all of them
-pub starred-cases : every (section1 ++ (section2 ++ (section4 ++ (section5 ++ (note1 ++ (note2 ++ note3)))))) ≡ true
-unfolding every section1 section2 section4 section5 note1 note2 note3
+pub starred-cases : every (section1 ++ (section2 ++ (section4 ++ (section5 ++ (note1 ++ (note2 ++ (note3 ++ note4))))))) ≡ true
+unfolding every section1 section2 section4 section5 note1 note2 note3 note4
 starred-cases = refl

@@ -23,3 +23,15 @@ withFormerRow1 g = record {
   refusal = λ m places values zs vs c. orElse (formerRow1 (g .D)) (g .refusal m places values zs vs c);
   report = g .report;
 }
+
+-- ---- before note 4
+-- add calls with another merger: with `acceptByChi M T` for `acceptCounts M T` those of counts are the former ones
+abbrev pub withMerger : {A R X : Type 0} → (ℕ → ℕ → A → A → A → A → Option A) → Calls A R X → Calls A R X
+withMerger accept g = record {
+  largest = g .largest;
+  D = g .D;
+  filler = g .filler;
+  accept = accept;
+  refusal = g .refusal;
+  report = g .report;
+}
