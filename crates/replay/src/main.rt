@@ -55,7 +55,7 @@ use line::read;
 use print::print_answer;
 use tally::Tally;
 
-// The input has some 230,000 bytes.
+// The input has some 250,000 bytes.
 const MAX_INPUT: usize = 262_144;
 
 fn main() {
