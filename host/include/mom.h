@@ -171,17 +171,19 @@ uint64_t mom_from_zuniq(uint64_t zuniq, uint8_t *depth, uint64_t *hash);
 uint64_t mom_are_overlapping(uint64_t zuniq_l, uint64_t zuniq_r);
 
 /* The counts of the four children of a cell at parent_depth are merged where parent_depth is at
- * least depth_threshold and their chi-square is below chi2_threshold. The value is then their sum,
- * the parent's count, and *chi2 is left as it was. Otherwise the answer is MOM_KEPT, and *chi2 =
- * their chi-square.
+ * least depth_threshold and their chi-square is below chi2_threshold. Four counts of 0, blank sky,
+ * are merged at any chi2_threshold, from depth_threshold on. The value is then their sum, the
+ * parent's count, and *chi2 is left as it was. Otherwise the answer is MOM_KEPT, and *chi2 = their
+ * chi-square.
  * Refuses by 1: parent_depth is over 28; then by 2: depth_threshold is over 29; then by 3:
  * chi2_threshold is a NaN; then by 10: the sum of the four is over 2^32 - 1. */
 uint64_t mom_chi2_count_merger(uint8_t parent_depth, uint8_t depth_threshold, double chi2_threshold,
                                uint32_t n0, uint32_t n1, uint32_t n2, uint32_t n3, double *chi2);
 
-/* The densities of the four children are merged under the same conditions. *answer = a quarter of
- * their sum, the parent's density, or with MOM_KEPT their chi-square, which may be NaN or infinite
- * where the sum is near the largest double or past it.
+/* The densities of the four children are merged where parent_depth is at least depth_threshold and
+ * their chi-square is below chi2_threshold; four of 0 are judged by it like others. *answer = a
+ * quarter of their sum, the parent's density, or with MOM_KEPT their chi-square, which may be NaN or
+ * infinite where the sum is near the largest double or past it.
  * Refuses by 1, 2 and 3 as for counts; then by 9: a density is NaN, infinite or below 0 (-0 is none
  * of these); the place is the first such child, 0 to 3. */
 uint64_t mom_chi2_density_merger(uint8_t parent_depth, uint8_t depth_threshold,
@@ -210,9 +212,9 @@ uint64_t mom_get_overlapped_cells_zuniqs(const uint64_t *zuniqs, size_t len, uin
 /* Adds cells of that depth, given by hashes and their counts in batch, to the map in the first held
  * places of zuniqs and counts. Each cell is appended; while the last four entries are the children
  * of one parent and the count merger accepts them under depth_threshold and chi2_threshold, they
- * are replaced by the parent; cells of depth 0 have none, and stay as they are. The value is the new
- * number of entries and *total = the sum of their counts; every place after the entries is 0. By a
- * refusal both buffers and *total are left as they were.
+ * are replaced by the parent: blank sky at any chi2_threshold. Cells of depth 0 have no parent, and
+ * stay as they are. The value is the new number of entries and *total = the sum of their counts;
+ * every place after the entries is 0. By a refusal both buffers and *total are left as they were.
  * Refuses by 1: the depth is over 29; then by 2: depth_threshold is over 29; then by 3:
  * chi2_threshold is a NaN; then by 4: zl isn't cl, hl isn't bl, or held is over zl; then by 5: the
  * held entries are no valid map of that depth, the place is the faulty entry; then, cell by cell,
@@ -242,9 +244,9 @@ uint64_t mom_add_densities(uint8_t depth, uint8_t depth_threshold, double chi2_t
  * entry of one map that has entries of the other in it is split: each of its children gets a
  * quarter of its count, and the first ones one more each, as many as are left over; so on, level
  * by level. The cells are then merged by the count merger under depth_threshold and
- * chi2_threshold, as mom_add_counts does. The value is the number of entries and *total = the
- * sum of their counts; every place after the entries is 0. By a refusal both buffers and *total
- * are left as they were.
+ * chi2_threshold, as mom_add_counts does: blank sky at any chi2_threshold. The value is the number
+ * of entries and *total = the sum of their counts; every place after the entries is 0. By a refusal
+ * both buffers and *total are left as they were.
  * Refuses by 1: a map's depth is over 29; then by 2: depth_threshold is over 29; then by 3:
  * chi2_threshold is a NaN; then by 4: lzl isn't lcl, rzl isn't rcl, or zl isn't cl; then by 5: a
  * map is no valid map of its depth, the place is its first faulty entry, and the left map goes
@@ -343,9 +345,9 @@ uint64_t mom32_get_overlapped_cells_zuniqs(const uint32_t *zuniqs, size_t len, u
                                            size_t *number);
 
 /* Adds cells of that depth, given by hashes and their counts in batch, to the narrow map in the first
- * held places of zuniqs and counts, as mom_add_counts does, by the same merger. The value is the new
- * number of entries and *total = the sum of their counts; every place after the entries is 0. By a
- * refusal both buffers and *total are left as they were.
+ * held places of zuniqs and counts, as mom_add_counts does, by the same merger: blank sky is merged at
+ * any chi2_threshold. The value is the new number of entries and *total = the sum of their counts;
+ * every place after the entries is 0. By a refusal both buffers and *total are left as they were.
  * Refuses by 1: the depth is over 13; then by 2: depth_threshold is over 29 (from 13 on nothing is
  * merged); then by 3, 4, 5, 7, 8, 10 and 11 as mom_add_counts does, the held entries being a narrow
  * map. */

@@ -191,6 +191,90 @@ static void pooling(void) {
            "a pool of no entries");
 }
 
+/* Whether four counts are merged to 0, with the chi-square left alone. */
+static int merges_to_0(uint8_t p, uint8_t m, double t) {
+    double chi2 = 5.5;
+    return answers(mom_chi2_count_merger(p, m, t, 0, 0, 0, 0, &chi2), MOM_ACCEPTED, 0) &&
+           chi2 == 5.5;
+}
+
+/* Whether they are kept by M, with a chi-square of +0. */
+static int keeps_blanks(uint8_t p, uint8_t m, double t) {
+    double chi2 = 5.5;
+    return answers(mom_chi2_count_merger(p, m, t, 0, 0, 0, 0, &chi2), MOM_KEPT, 0) && chi2 == 0 &&
+           !signbit(chi2);
+}
+
+/* Adding sixteen blank cells of depth 2 in two calls, cut behind so many; then whether so many
+ * entries of one depth are there, and 0 behind them. */
+static int adds_blanks(uint8_t m, double t, size_t cut, size_t entries, uint8_t depth) {
+    const uint64_t hashes[16] = {0, 1, 2, 3, 4, 5, 6, 7, 8, 9, 10, 11, 12, 13, 14, 15};
+    const uint32_t blank[16] = {0};
+    uint64_t zuniqs[16] = {5}, word;
+    uint32_t counts[16] = {5}, total = 5;
+    int all;
+
+    word = mom_add_counts(2, m, t, 0, zuniqs, 16, counts, 16, hashes, cut, blank, cut, &total);
+    all = mom_code(word) == MOM_ACCEPTED && total == 0;
+    word = mom_add_counts(2, m, t, (size_t)mom_value(word), zuniqs, 16, counts, 16, hashes + cut,
+                          16 - cut, blank, 16 - cut, &total);
+    all = all && answers(word, MOM_ACCEPTED, entries) && total == 0;
+    for (size_t i = 0; i < 16; i++) {
+        uint64_t zuniq = i < entries ? (2 * i + 1) << (2 * (29 - depth)) : 0;
+        all = all && zuniqs[i] == zuniq && counts[i] == 0;
+    }
+    return all;
+}
+
+/* Blank sky: from M on, four counts of 0 are merged at any T. */
+static void merging_blank_sky(void) {
+    const double thresholds[5] = {0, -0.0, -1, -INFINITY, INFINITY};
+    double chi2 = 5.5;
+    int merged = 1, kept = 1, added = 1;
+
+    for (int i = 0; i < 5; i++) {
+        double t = thresholds[i];
+        merged = merged && merges_to_0(0, 0, t) && merges_to_0(28, 28, t);
+        kept = kept && keeps_blanks(0, 1, t) && keeps_blanks(28, 29, t);
+        for (size_t cut = 0; cut <= 16; cut++) {
+            added = added && adds_blanks(0, t, cut, 1, 0) && adds_blanks(1, t, cut, 4, 1) &&
+                    adds_blanks(2, t, cut, 16, 2);
+        }
+    }
+    expect(merged, "blank sky merged at any T");
+    expect(kept, "blank sky kept below M");
+    expect(added, "sixteen blank cells, cut anywhere");
+    expect(answers(mom_chi2_count_merger(0, 0, NAN, 0, 0, 0, 0, &chi2),
+                   MOM_CHI2_THRESHOLD_IS_NAN, 0) && chi2 == 5.5, "blank sky, T a NaN");
+    expect(answers(mom_chi2_count_merger(0, 0, 0, 0, 0, 0, 1, &chi2), MOM_KEPT, 0) && chi2 == 1,
+           "three blanks and a source at T = 0");
+    expect(answers(mom_chi2_count_merger(0, 0, 0, 4, 4, 4, 4, &chi2), MOM_KEPT, 0) && chi2 == 0,
+           "counts of 4 at T = 0");
+}
+
+/* The same in a pool, of (0,0) and (1,1), and in a narrow map. */
+static void blank_maps(void) {
+    const uint64_t base[1] = {UINT64_C(1) << 58}, second[1] = {UINT64_C(3) << 56};
+    const uint32_t none[1] = {0}, hashes[4] = {0, 1, 2, 3}, blank[4] = {0, 0, 0, 0};
+    uint64_t zuniqs[4] = {5, 5, 5, 5};
+    uint32_t narrow[4] = {5, 5, 5, 5}, counts[4] = {5, 5, 5, 5}, total = 5;
+
+    expect(answers(mom_pool(0, base, 1, none, 1, 1, second, 1, none, 1, 0, 0, zuniqs, 4, counts, 4,
+                            &total),
+                   MOM_ACCEPTED, 1) && total == 0 && zuniqs[0] == base[0] && zuniqs[1] == 0 &&
+           counts[0] == 0 && counts[3] == 0, "a pool of blank sky at T = 0");
+    expect(answers(mom_pool(0, base, 1, none, 1, 1, second, 1, none, 1, 1, 0, zuniqs, 4, counts, 4,
+                            &total),
+                   MOM_ACCEPTED, 4) && total == 0 && zuniqs[1] == second[0],
+           "a pool of blank sky, M = 1");
+    expect(answers(mom32_add_counts(1, 0, -1, 0, narrow, 4, counts, 4, hashes, 4, blank, 4, &total),
+                   MOM_ACCEPTED, 1) && total == 0 && narrow[0] == UINT32_C(1) << 26 &&
+           narrow[1] == 0, "narrow adding of blank sky at T = -1");
+    expect(answers(mom32_add_counts(1, 1, -1, 0, narrow, 4, counts, 4, hashes, 4, blank, 4, &total),
+                   MOM_ACCEPTED, 4) && narrow[3] == UINT32_C(7) << 24,
+           "narrow adding of blank sky, M = 1");
+}
+
 static void multiplying(void) {
     const uint64_t base[1] = {UINT64_C(1) << 58}, third[1] = {UINT64_C(5) << 56};
     const double two[1] = {2}, three[1] = {3}, huge[1] = {1e308}, nan[1] = {NAN};
@@ -762,6 +846,8 @@ int main(void) {
     rows();
     maps_of_rows();
     pooling();
+    merging_blank_sky();
+    blank_maps();
     multiplying();
     narrow_cells();
     narrow_rows();

@@ -42,6 +42,22 @@ pub fn first_cells<Z: Width>(depth: u8, number: usize) -> Cells<u32, Z> {
     }
 }
 
+/// All cells of a depth, each with chance 9/10 blank, else with a Poisson count of mean 8.
+pub fn blank_sky(depth: u8) -> Cells<u32> {
+    let mut random = Random::new(11);
+    let count = |_: &u64| match random.below(10) {
+        0 => poisson(&mut random, 8.0),
+        _ => 0,
+    };
+    let hashes: Vec<u64> = (0..run::n_hash(depth)).collect();
+    let values = hashes.iter().map(count).collect();
+    Cells {
+        depth,
+        hashes,
+        values,
+    }
+}
+
 /// Each cell of a depth with chance 1/4, with Poisson counts of mean 8.
 pub fn random_quarter(depth: u8) -> Cells<u32> {
     let mut random = Random::new(10);

@@ -32,6 +32,9 @@ pub const DEPTHS: [(u8, u8); 7] = [(0, 0), (0, 1), (1, 0), (1, 1), (1, 2), (28, 
 /// The thresholds that the original's comments recommend.
 const USUAL: [f64; 5] = [6.251, 7.815, 9.348, 11.345, 16.266];
 
+/// Thresholds that the chi of a blank quad, which is 0, is not below.
+pub const NOT_ABOVE_0: [f64; 6] = [0.0, -0.0, -5e-324, -1.0, -f64::MAX, f64::NEG_INFINITY];
+
 impl<V: Copy> Call<V> {
     /// T at chi and about it, at 0 and about it, and far from both.
     pub fn all(quad: Quad<V>, depth_threshold: u8, chi: f64) -> impl Iterator<Item = Self> {
@@ -128,8 +131,33 @@ impl Quad<u32> {
 
 impl Call<u32> {
     pub fn random(random: &mut Random) -> Self {
+        match random.below(8) {
+            0 => Self::blank(random),
+            _ => Self::any(random),
+        }
+    }
+
+    pub fn any(random: &mut Random) -> Self {
         let quad = Quad::<u32>::random(random);
         Self::about(random, quad, quad.chi())
+    }
+
+    /// A blank quad, or one with a single source, mostly where T is not above 0.
+    pub fn blank(random: &mut Random) -> Self {
+        let mut values = [0; 4];
+        if random.below(4) == 0 {
+            values[random.below(4) as usize] = 1;
+        }
+        let parent_depth = parent_depth(random);
+        let quad = Quad {
+            values,
+            parent_depth,
+        };
+        let mut call = Self::about(random, quad, quad.chi());
+        if random.coin() {
+            call.chi2_threshold = Float(any_of(random, &NOT_ABOVE_0));
+        }
+        call
     }
 }
 

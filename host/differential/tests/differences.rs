@@ -1,13 +1,13 @@
-//! Every intended difference from the original, outside valid values, at its smallest input: what
-//! the original does where its arithmetic panics (`checked`) and where it wraps (`release`), and
-//! what ours answers.
+//! Every intended difference from the original, outside valid values and on blank sky, at its smallest
+//! input: what the original does where its arithmetic panics (`checked`) and where it wraps
+//! (`release`), and what ours answers.
 
 use std::{
     fmt::Debug,
     panic::{catch_unwind, AssertUnwindSafe},
 };
 
-use mom::{rows, Added, Fault, MapCheck, Refusal};
+use mom::{rows, Added, CountMerge, Fault, MapCheck, Refusal};
 use oracle::run;
 
 /// The first number past the last zuniq that doesn't end in 60 or more zeros.
@@ -127,7 +127,7 @@ fn are_overlapping_refuses_what_is_no_zuniq() {
 /// depth further down, where its table ends. At 255 that depth wraps to 0.
 #[test]
 fn the_mergers_refuse_a_parent_depth_over_28() {
-    assert_eq!(run::merge_counts(29, 0, 1.0, [0; 4]), Some(0));
+    assert_eq!(run::merge_counts_by_chi(29, 0, 1.0, [0; 4]), Some(0));
     assert_eq!(mom::chi2_count_merger(29, 0, 1.0, [0; 4]), refused(1, 0));
     for parent in [29, 254] {
         assert!(panics(|| run::merge_densities(parent, 0, 1.0, [0.0; 4])));
@@ -142,7 +142,7 @@ fn the_mergers_refuse_a_parent_depth_over_28() {
 /// The original keeps the four, as at any M above the parent's depth.
 #[test]
 fn the_mergers_refuse_a_depth_threshold_over_29() {
-    assert_eq!(run::merge_counts(0, 30, 1.0, [0; 4]), None);
+    assert_eq!(run::merge_counts_by_chi(0, 30, 1.0, [0; 4]), None);
     assert_eq!(mom::chi2_count_merger(0, 30, 1.0, [0; 4]), refused(2, 0));
     assert_eq!(run::merge_densities(0, 30, 1.0, [0.0; 4]), None);
     let ours = mom::chi2_density_merger(0, 30, 1.0, [0.0; 4]);
@@ -153,7 +153,7 @@ fn the_mergers_refuse_a_depth_threshold_over_29() {
 #[test]
 fn the_mergers_refuse_a_threshold_that_is_nan() {
     let t = f64::NAN;
-    assert_eq!(run::merge_counts(0, 0, t, [0; 4]), None);
+    assert_eq!(run::merge_counts_by_chi(0, 0, t, [0; 4]), None);
     assert_eq!(mom::chi2_count_merger(0, 0, t, [0; 4]), refused(3, 0));
     assert_eq!(run::merge_densities(0, 0, t, [0.0; 4]), None);
     let ours = mom::chi2_density_merger(0, 0, t, [0.0; 4]);
@@ -164,7 +164,7 @@ fn the_mergers_refuse_a_threshold_that_is_nan() {
 fn the_count_merger_refuses_a_sum_that_overflows() {
     let counts = [u32::MAX, 1, 0, 0];
     let t = f64::INFINITY;
-    assert_overflows(|| run::merge_counts(0, 0, t, counts), Some(0));
+    assert_overflows(|| run::merge_counts_by_chi(0, 0, t, counts), Some(0));
     assert_eq!(mom::chi2_count_merger(0, 0, t, counts), refused(10, 0));
 }
 
@@ -173,8 +173,27 @@ fn the_count_merger_refuses_a_sum_that_overflows() {
 fn the_count_merger_refuses_a_sum_that_overflows_of_counts_that_are_kept() {
     let counts = [u32::MAX, 1, 0, 0];
     for (m, t) in [(0, 0.0), (1, f64::INFINITY)] {
-        assert_eq!(run::merge_counts(0, m, t, counts), None);
+        assert_eq!(run::merge_counts_by_chi(0, m, t, counts), None);
         assert_eq!(mom::chi2_count_merger(0, m, t, counts), refused(10, 0));
+    }
+}
+
+/// T of 0 or less.
+const NOT_ABOVE_0: [f64; 5] = [0.0, -0.0, -5e-324, -1.0, f64::NEG_INFINITY];
+
+/// Their chi is 0, and the original merges what is below T. Where one of them isn't blank, and below
+/// M, ours keeps them too.
+#[test]
+fn the_count_merger_merges_four_blanks_at_a_threshold_of_0_or_less() {
+    for t in NOT_ABOVE_0 {
+        assert_eq!(run::merge_counts_by_chi(0, 0, t, [0; 4]), None);
+        let ours = mom::chi2_count_merger(0, 0, t, [0; 4]);
+        assert_eq!(ours, Ok(CountMerge::Merged(0)));
+        for (m, counts, chi) in [(1, [0; 4], 0.0), (0, [0, 0, 0, 1], 1.0), (0, [4; 4], 0.0)] {
+            assert_eq!(run::merge_counts_by_chi(0, m, t, counts), None);
+            let ours = mom::chi2_count_merger(0, m, t, counts);
+            assert_eq!(ours, Ok(CountMerge::Kept(chi)));
+        }
     }
 }
 
@@ -330,7 +349,7 @@ fn our_counts((depth, m, t): (u8, u8, f64), cells: &[(u64, u32)]) -> Vec<(u64, u
 }
 
 fn original_built((depth, m, t): (u8, u8, f64), cells: &[(u64, u32)]) -> Vec<(u64, u32)> {
-    run::build_counts(depth, m, t, cells.iter().copied())
+    run::build_counts_by_chi(depth, m, t, cells.iter().copied())
 }
 
 fn assert_refused(setting: (u8, u8, f64), cells: &[(u64, u32)], number: u8, place: usize) {
@@ -388,6 +407,22 @@ fn add_counts_refuses_a_depth_threshold_over_29_and_a_threshold_that_is_nan() {
     for (setting, number) in [((1, 30, 3.5), 2), ((1, 0, f64::NAN), 3)] {
         assert_eq!(original_built(setting, &cells).len(), 4);
         assert_refused(setting, &cells, number, 0);
+    }
+}
+
+/// The original keeps all, at every level; ours goes on up to M.
+#[test]
+fn add_counts_merges_blanks_at_a_threshold_of_0_or_less() {
+    let blanks = |cells| (0..cells).map(|hash| (hash, 0)).collect::<Vec<_>>();
+    for t in NOT_ABOVE_0 {
+        for (depth, cells, m, depth_of_merged) in [(1, 4, 0, 0), (2, 16, 0, 0), (2, 16, 1, 1)] {
+            let cells = blanks(cells);
+            let kept = cells.iter().map(|&(h, n)| (run::to_zuniq(depth, h), n));
+            assert!(kept.eq(original_built((depth, m, t), &cells)));
+            let merged = (0..4u64.pow(depth_of_merged as u32))
+                .map(|hash| (run::to_zuniq(depth_of_merged, hash), 0));
+            assert!(merged.eq(our_counts((depth, m, t), &cells)));
+        }
     }
 }
 

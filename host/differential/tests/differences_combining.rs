@@ -35,7 +35,7 @@ type Pair<'a> = (u8, &'a [(u64, u32)], u8, &'a [(u64, u32)], u8, f64);
 
 fn original((dl, left, dr, right, m, t): Pair) -> Entries<u32> {
     let (left, right) = (run::mom(dl, left.to_vec()), run::mom(dr, right.to_vec()));
-    run::pool(left, right, m, t).1
+    run::pool_by_chi(left, right, m, t).1
 }
 
 /// Our answer, and the entries in both buffers where it is accepted; where not, that they are as before.
@@ -137,6 +137,26 @@ fn the_pool_refuses_counts_that_overflow_together() {
     let kept = [&left[..], &right].concat();
     assert_eq!(original(pair(0.0)), kept);
     assert_refused(pair(0.0), 10, 0);
+}
+
+/// The original keeps four blanks, whether they are entries of one map or parts of a larger one.
+#[test]
+fn the_pool_merges_blanks_at_a_threshold_of_0_or_less() {
+    let four = FOUR.map(|(depth, hash, _)| (depth, hash, 0));
+    let (four, base) = (entries(&four), entries(&[(0, 0, 0)]));
+    for t in [0.0, -0.0, -5e-324, -1.0, f64::NEG_INFINITY] {
+        for (left, right) in [(&four[..], &NONE[..]), (&four[..1], &base)] {
+            let pair = |m| (1, left, 1, right, m, t);
+            assert_eq!(
+                (original(pair(0)), ours(pair(0))),
+                (four.clone(), Ok(base.clone()))
+            );
+            assert_eq!(
+                (original(pair(1)), ours(pair(1))),
+                (four.clone(), Ok(four.clone()))
+            );
+        }
+    }
 }
 
 /// No difference: the original tries every quad as its last cell comes, the last one too, whichever map

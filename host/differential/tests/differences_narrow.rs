@@ -170,7 +170,7 @@ fn narrow_get_overlapped_cells_refuses_what_is_no_zuniq() {
 type Setting = (u8, u8, f64);
 
 fn original_built((depth, m, t): Setting, cells: &[(u32, u32)]) -> Vec<(u32, u32)> {
-    run::build_counts(depth, m, t, cells.iter().copied())
+    run::build_counts_by_chi(depth, m, t, cells.iter().copied())
 }
 
 /// The entries that ours builds from one batch. A refusal touches nothing.
@@ -246,6 +246,19 @@ fn narrow_add_counts_refuses_a_depth_threshold_over_29_and_a_threshold_that_is_n
     }
     let kept = original_built((1, 29, 3.5), &cells);
     assert_eq!(built((1, 29, 3.5), &cells), Ok(kept));
+}
+
+/// The original keeps them, as at the other width; below M ours does, too.
+#[test]
+fn narrow_add_counts_merges_blanks_at_a_threshold_of_0_or_less() {
+    let cells = [(0, 0), (1, 0), (2, 0), (3, 0)];
+    for t in [0.0, -0.0, -5e-324, -1.0, f64::NEG_INFINITY] {
+        let kept = cells.map(|(hash, count)| ((2 * hash + 1) << 24, count));
+        assert_eq!(original_built((1, 0, t), &cells), kept);
+        assert_eq!(built((1, 0, t), &cells), Ok(vec![(1 << 26, 0)]));
+        assert_eq!(original_built((1, 1, t), &cells), kept);
+        assert_eq!(built((1, 1, t), &cells), Ok(kept.to_vec()));
+    }
 }
 
 // ---- Section 7: rows

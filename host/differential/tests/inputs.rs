@@ -6,7 +6,7 @@ use differential::{
     cells::{cells_to, n_hash, Cell, DEPTH_MAX},
     compare::Kind,
     floats::Float,
-    kinds::{LayOutInput, MoveInput},
+    kinds::{CountMerger, LayOutInput, MoveInput},
     lists::{Add, Build, Input, Value},
     maps::Map,
     quads::{unit_density, Call, Quad, PARENT_DEPTH_MAX},
@@ -207,6 +207,54 @@ fn no_counts_are_rare() {
     );
 }
 
+/// Whether the call is on a blank quad, and is as `is` asks: the parent's depth less M, and T.
+fn is_blank(call: &Call<u32>, is: impl Fn(i16, f64) -> bool) -> bool {
+    let above = call.quad.parent_depth as i16 - call.depth_threshold as i16;
+    call.quad.values == [0; 4] && is(above, call.chi2_threshold.0)
+}
+
+/// With M below the parent's depth, at it and above it.
+#[test]
+fn no_blank_quad_at_a_threshold_of_0_or_less_is_rare() {
+    let classes: &[Class<Call<u32>>] = &[
+        ("0", |call| {
+            is_blank(call, |above, t| above >= 0 && Float(t) == Float(0.0))
+        }),
+        ("-0", |call| {
+            is_blank(call, |above, t| above >= 0 && Float(t) == Float(-0.0))
+        }),
+        ("below 0", |call| {
+            is_blank(call, |above, t| above >= 0 && t < 0.0 && t.is_finite())
+        }),
+        ("-infinity", |call| {
+            is_blank(call, |above, t| above >= 0 && t == f64::NEG_INFINITY)
+        }),
+        ("M at the parent's depth", |call| {
+            is_blank(call, |above, t| above == 0 && t <= 0.0)
+        }),
+        ("M below it", |call| {
+            is_blank(call, |above, t| above > 0 && t <= 0.0)
+        }),
+        ("M just above it", |call| {
+            is_blank(call, |above, t| above == -1 && t <= 0.0)
+        }),
+        ("M above it, T above 0", |call| {
+            is_blank(call, |above, t| above < 0 && t > 0.0)
+        }),
+        ("the least T above 0", |call| {
+            is_blank(call, |above, t| above >= 0 && t == 5e-324)
+        }),
+        ("a single source", |call| {
+            let low = call.chi2_threshold.0 <= 0.0;
+            low && call.quad.values.iter().sum::<u32>() == 1
+        }),
+    ];
+    assert_none_is_rare(drawn_counts(), classes);
+    for (name, belongs) in classes {
+        assert!(CountMerger::small().any(|call| belongs(&call)), "{name}");
+    }
+}
+
 #[test]
 fn no_densities_are_rare() {
     let drawn = drawn_densities().map(|call| {
@@ -315,28 +363,46 @@ fn no_map_and_no_query_is_rare() {
 /// A step of a list of add calls, as the table and the original's building make it.
 struct Step<V> {
     depth: u8,
+    /// M
+    depth_threshold: u8,
+    /// T
+    chi2_threshold: f64,
     refusal: Option<Refusal>,
+    /// The entries before the call.
+    held: Vec<(Cell, V)>,
     entries: Vec<(Cell, V)>,
     places: usize,
 }
 
+fn steps_of<V: Build<Z>, Z: Width>(input: &Input<V, Z>) -> Vec<Step<V>> {
+    let mut held = Vec::new();
+    let steps = Add::<V, Z>::original(input).into_iter();
+    steps
+        .map(|(answer, zuniqs, values)| {
+            let places = zuniqs.len();
+            let number = answer.map_or(0, |(entries, _)| entries);
+            let cells = zuniqs.into_iter().take(number).filter_map(Cell::of_zuniq);
+            let entries: Vec<(Cell, V)> = cells.zip(values).collect();
+            let step = Step {
+                depth: input.depth,
+                depth_threshold: input.depth_threshold,
+                chi2_threshold: input.chi2_threshold.0,
+                refusal: answer.err(),
+                held: held.clone(),
+                entries: entries.clone(),
+                places,
+            };
+            if answer.is_ok() {
+                held = entries;
+            }
+            step
+        })
+        .collect()
+}
+
 fn drawn_steps<V: Build<Z>, Z: Width>(seed: u64) -> impl Iterator<Item = Step<V>> {
     let mut random = Random::new(seed);
-    (0..DRAWN / 20).flat_map(move |_| {
-        let input = Input::random(&mut random);
-        let steps = Add::<V, Z>::original(&input).into_iter();
-        steps.map(move |(answer, zuniqs, values)| {
-            let places = zuniqs.len();
-            let held = answer.map_or(0, |(entries, _)| entries);
-            let cells = zuniqs.into_iter().take(held).filter_map(Cell::of_zuniq);
-            Step {
-                depth: input.depth,
-                refusal: answer.err(),
-                entries: cells.zip(values).collect(),
-                places,
-            }
-        })
-    })
+    (0..DRAWN / 20).flat_map(move |_| steps_of::<V, Z>(&Input::random(&mut random)))
 }
 
 impl<V: Value> Step<V> {
@@ -407,6 +473,87 @@ fn no_refusal_and_no_kind_of_building_is_rare_among_counts() {
             ("a merged 0", |step| step.merged(|count| count == 0)),
         ]);
         assert_none_is_rare(drawn_steps::<u32, Z>(9), &classes);
+    }
+    at::<u64>();
+    at::<u32>();
+}
+
+impl Step<u32> {
+    /// Whether there is an entry of 0 that was merged where T is not above 0, and that is as `is` asks.
+    fn merges_blanks(&self, is: impl Fn(Cell) -> bool) -> bool {
+        self.chi2_threshold <= 0.0 && {
+            let mut entries = self.entries.iter();
+            entries.any(|&(cell, count)| cell.depth < self.depth && count == 0 && is(cell))
+        }
+    }
+
+    /// Whether four siblings stay where T is not above 0, with that total.
+    fn keeps_four(&self, total: u32) -> bool {
+        self.chi2_threshold <= 0.0
+            && self.entries.windows(4).any(|four| {
+                let first = four[0].0;
+                let cells: Vec<Cell> = four.iter().map(|entry| entry.0).collect();
+                let counts = four.iter().map(|entry| entry.1 as u64);
+                first.depth > 0
+                    && cells == first.ancestor(first.depth - 1).children()
+                    && counts.sum::<u64>() == total as u64
+            })
+    }
+
+    /// Whether some of a merged blank was there before the call.
+    fn merges_held_blanks(&self) -> bool {
+        self.merges_blanks(|cell| {
+            let mut held = self.held.iter();
+            held.any(|(entry, _)| entry.depth > cell.depth && entry.overlaps(cell))
+        })
+    }
+}
+
+/// What the small lists reach, too.
+const BLANK_STEPS: &[Class<Step<u32>>] = &[
+    ("0", |step| {
+        step.merges_blanks(|_| Float(step.chi2_threshold) == Float(0.0))
+    }),
+    ("-infinity", |step| {
+        step.merges_blanks(|_| step.chi2_threshold == f64::NEG_INFINITY)
+    }),
+    ("two merges deep", |step| {
+        step.merges_blanks(|cell| cell.depth + 2 == step.depth)
+    }),
+    ("across batches", |step| step.merges_held_blanks()),
+    ("as far as M", |step| {
+        step.merges_blanks(|cell| cell.depth == step.depth_threshold && cell.depth > 0)
+    }),
+    ("blanks kept below M", |step| step.keeps_four(0)),
+];
+
+const MORE_BLANK_STEPS: &[Class<Step<u32>>] = &[
+    ("-0", |step| {
+        step.merges_blanks(|_| Float(step.chi2_threshold) == Float(-0.0))
+    }),
+    ("below 0", |step| {
+        step.merges_blanks(|_| step.chi2_threshold < 0.0 && step.chi2_threshold.is_finite())
+    }),
+    ("three merges deep", |step| {
+        step.merges_blanks(|cell| cell.depth + 3 <= step.depth)
+    }),
+    ("beside a source", |step| {
+        step.merges_blanks(|_| step.entries.iter().any(|&(_, count)| count > 0))
+    }),
+    ("a single source kept", |step| step.keeps_four(1)),
+];
+
+#[test]
+fn no_blank_sky_at_a_threshold_of_0_or_less_is_rare() {
+    fn at<Z: Width>() {
+        for classes in [BLANK_STEPS, MORE_BLANK_STEPS] {
+            assert_none_is_rare(drawn_steps::<u32, Z>(16), classes);
+        }
+        let small = Add::<u32, Z>::small().flat_map(|input| steps_of(&input));
+        let small: Vec<Step<u32>> = small.collect();
+        for (name, belongs) in BLANK_STEPS {
+            assert!(small.iter().any(belongs), "{name}");
+        }
     }
     at::<u64>();
     at::<u32>();

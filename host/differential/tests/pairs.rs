@@ -182,6 +182,72 @@ fn no_kind_of_pool_is_rare() {
     assert_none_is_rare(&drawn(21), &classes);
 }
 
+impl Drawn<u32> {
+    fn t(&self) -> f64 {
+        self.input.chi2_threshold.0
+    }
+
+    /// Whether T is not above 0 and there is a merged entry of 0 that is as `is` asks, by its cell and
+    /// the overlay cells in it.
+    fn merges_blanks(&self, is: impl Fn(Cell, &[&Seen<u32>]) -> bool) -> bool {
+        self.t() <= 0.0
+            && self.entries().iter().any(|&(entry, count)| {
+                let below =
+                    |seen: &&Seen<u32>| seen.cell.depth > entry.depth && seen.cell.overlaps(entry);
+                let inside: Vec<_> = self.seen.iter().filter(below).collect();
+                count == 0 && !inside.is_empty() && is(entry, &inside)
+            })
+    }
+
+    /// Whether T is not above 0 and four siblings of 0 stay.
+    fn keeps_blanks(&self) -> bool {
+        self.t() <= 0.0
+            && self.entries().windows(4).any(|four| {
+                let first = four[0].0;
+                let is_child = |place: usize| {
+                    let (cell, count) = four[place];
+                    count == 0 && cell == first.ancestor(first.depth - 1).children()[place]
+                };
+                first.depth > 0 && (0..4).all(is_child)
+            })
+    }
+}
+
+const BLANK_POOLS: &[Class<u32>] = &[
+    ("0", |pair| {
+        pair.merges_blanks(|_, _| Float(pair.t()) == Float(0.0))
+    }),
+    ("-0", |pair| {
+        pair.merges_blanks(|_, _| Float(pair.t()) == Float(-0.0))
+    }),
+    ("below 0", |pair| {
+        pair.merges_blanks(|_, _| pair.t() < 0.0 && pair.t().is_finite())
+    }),
+    ("-infinity", |pair| {
+        pair.merges_blanks(|_, _| pair.t() == f64::NEG_INFINITY)
+    }),
+    ("through three levels", |pair| {
+        pair.merges_blanks(|entry, inside| inside.iter().any(|s| s.cell.depth > entry.depth + 2))
+    }),
+    ("of both maps", |pair| {
+        pair.merges_blanks(|_, inside| {
+            inside.iter().any(|s| s.left.is_some()) && inside.iter().any(|s| s.right.is_some())
+        })
+    }),
+    ("as far as M", |pair| {
+        pair.merges_blanks(|entry, _| entry.depth == pair.input.depth_threshold && entry.depth > 0)
+    }),
+    ("beside a source", |pair| {
+        pair.merges_blanks(|_, _| pair.entries().iter().any(|&(_, count)| count > 0))
+    }),
+    ("kept below M", |pair| pair.keeps_blanks()),
+];
+
+#[test]
+fn no_blank_sky_at_a_threshold_of_0_or_less_is_rare_among_pools() {
+    assert_none_is_rare(&drawn(25), BLANK_POOLS);
+}
+
 #[test]
 fn no_kind_of_product_is_rare() {
     let mut classes = Drawn::<Float>::classes();

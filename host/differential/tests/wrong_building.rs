@@ -17,6 +17,14 @@ const DRAWN: usize = 5_000;
 /// What is answered before anything is added, by what the table refuses.
 type Judge<V, Z> = fn(Option<Refusal>, &mut Arguments<V, Z>) -> Option<Answer<V>>;
 
+/// The last four entries of a map, which are siblings.
+struct Four<V> {
+    /// The place of the first.
+    place: usize,
+    parent_depth: u8,
+    values: [V; 4],
+}
+
 struct Program<V: Value, Z> {
     /// How many of so many cells are taken.
     taken: fn(usize) -> usize,
@@ -25,6 +33,8 @@ struct Program<V: Value, Z> {
     are_siblings: fn([Cell; 4]) -> bool,
     /// By the parent's depth less M, chi and T.
     merges: fn(i16, f64, f64) -> bool,
+    /// Whether the four are merged whatever their chi is.
+    merges_blank: fn(&Arguments<V, Z>, Four<V>) -> bool,
     merged: fn([V; 4]) -> V,
     /// How many places behind the last entry are cleared: of zuniqs, and of values.
     cleared: fn(usize) -> [usize; 2],
@@ -42,6 +52,9 @@ impl<V: Value, Z: Width> Program<V, Z> {
                 first.depth > 0 && cells == first.ancestor(first.depth - 1).children()
             },
             merges: |above, chi, t| above >= 0 && chi < t,
+            merges_blank: |call, four| {
+                four.parent_depth >= call.depth_threshold && V::are_blank(four.values)
+            },
             merged,
             cleared: |places| [places; 2],
             judge: |due, _| due.map(Err),
@@ -94,7 +107,13 @@ impl<V: Value, Z: Width> Program<V, Z> {
         let depth = a.0.depth - 1;
         let above = depth as i16 - call.depth_threshold as i16;
         let chi = V::chi2(values, depth);
+        let four = Four {
+            place: map.len() - 4,
+            parent_depth: depth,
+            values,
+        };
         let merges = (self.merges)(above, chi, call.chi2_threshold);
+        let merges = merges || (self.merges_blank)(call, four);
         merges.then(|| (a.0.ancestor(depth), (self.merged)(values)))
     }
 
@@ -204,6 +223,73 @@ fn no_wrong_building_from_counts_is_missed() {
     at::<u32>();
 }
 
+/// A right program but for the four that it merges whatever their chi is.
+fn assert_blanks_are_found<Z: Width>(
+    drawn: &Drawn<u32, Z>,
+    wrong: &str,
+    merges_blank: fn(&Arguments<u32, Z>, Four<u32>) -> bool,
+) {
+    let program = Program {
+        merges_blank,
+        ..Program::right(sum)
+    };
+    drawn.assert_found(wrong, program);
+}
+
+#[test]
+fn no_wrong_thresholds_of_blank_sky_are_missed() {
+    fn at<Z: Width>() {
+        let drawn = Drawn::<u32, Z>::new(18);
+        let found = |wrong, rule| assert_blanks_are_found(&drawn, wrong, rule);
+        found("by chi alone", |_, _| false);
+        found("below M too", |_, four| four.values == [0; 4]);
+        found("the child's depth", |call, four| {
+            four.parent_depth + 1 >= call.depth_threshold && four.values == [0; 4]
+        });
+        found("above M alone", |call, four| {
+            four.parent_depth > call.depth_threshold && four.values == [0; 4]
+        });
+        found("at T = 0 alone", |call, four| {
+            call.chi2_threshold == 0.0 && is_blank(call, &four)
+        });
+        found("at T below 0 alone", |call, four| {
+            call.chi2_threshold < 0.0 && is_blank(call, &four)
+        });
+        found("at a finite T alone", |call, four| {
+            call.chi2_threshold.is_finite() && is_blank(call, &four)
+        });
+    }
+    at::<u64>();
+    at::<u32>();
+}
+
+#[test]
+fn no_wrong_four_of_blank_sky_are_missed() {
+    fn at<Z: Width>() {
+        let drawn = Drawn::<u32, Z>::new(19);
+        let found = |wrong, rule| assert_blanks_are_found(&drawn, wrong, rule);
+        found("three blanks and a source", |call, four| {
+            four.parent_depth >= call.depth_threshold && sum(four.values) <= 1
+        });
+        found("four that are equal", |call, four| {
+            let [first, ..] = four.values;
+            four.parent_depth >= call.depth_threshold && four.values == [first; 4]
+        });
+        found("cells of the list alone", |call, four| {
+            four.parent_depth + 1 == call.depth && is_blank(call, &four)
+        });
+        found("cells of one batch alone", |call, four| {
+            four.place >= call.held && is_blank(call, &four)
+        });
+    }
+    at::<u64>();
+    at::<u32>();
+}
+
+fn is_blank<Z>(call: &Arguments<u32, Z>, four: &Four<u32>) -> bool {
+    four.parent_depth >= call.depth_threshold && four.values == [0; 4]
+}
+
 /// What a narrow call answers that takes depths up to 29: where nothing else is refused, that the map
 /// stays.
 fn taken_to_29(due: Option<Refusal>, call: &mut Arguments<u32, u32>) -> Option<Answer<u32>> {
@@ -232,11 +318,24 @@ fn no_wrong_limit_of_narrow_building_is_missed() {
     drawn.assert_found("13 for the 29 of M", m_to_13);
 }
 
+fn quarter([m0, m1, m2, m3]: [Float; 4]) -> Float {
+    Float((((m0.0 + m1.0) + m2.0) + m3.0) / 4.0)
+}
+
+/// Four densities of 0 are judged by their chi.
+#[test]
+fn no_rule_of_blank_sky_for_densities_is_missed() {
+    let blank = Program {
+        merges_blank: |call, four| {
+            four.parent_depth >= call.depth_threshold && four.values == [Float(0.0); 4]
+        },
+        ..Program::right(quarter)
+    };
+    Drawn::<Float, u64>::new(20).assert_found("four densities of 0 at any T", blank);
+}
+
 #[test]
 fn no_wrong_building_from_densities_is_missed() {
-    fn quarter([m0, m1, m2, m3]: [Float; 4]) -> Float {
-        Float((((m0.0 + m1.0) + m2.0) + m3.0) / 4.0)
-    }
     let drawn = Drawn::<Float, u64>::new(12);
     drawn.assert_all_found(quarter);
     let wrong = |merged| Program::right(merged);

@@ -22,6 +22,8 @@ struct Program<V: Combine> {
     are_siblings: fn([Cell; 4]) -> bool,
     /// By the parent's depth less M, chi and T.
     merges: fn(i16, f64, f64) -> bool,
+    /// Whether the four children of a parent of that depth are merged whatever their chi is.
+    merges_blank: fn(&Input<V>, u8, [V; 4]) -> bool,
     merged: fn([V; 4]) -> V,
     /// How many places behind the last entry are cleared: of zuniqs, and of values.
     cleared: fn(usize) -> [usize; 2],
@@ -48,6 +50,9 @@ impl<V: Combine> Program<V> {
                 first.depth > 0 && cells == first.ancestor(first.depth - 1).children()
             },
             merges: |above, chi, t| above >= 0 && chi < t,
+            merges_blank: |input, parent, values| {
+                parent >= input.depth_threshold && V::are_blank(values)
+            },
             merged: V::merged,
             cleared: |places| [places; 2],
             refuse: |refusal, _, _| refusal,
@@ -88,6 +93,7 @@ impl<V: Combine> Program<V> {
         let above = depth as i16 - input.depth_threshold as i16;
         let chi = V::chi2(values, depth);
         let merges = (self.merges)(above, chi, input.chi2_threshold.0);
+        let merges = merges || (self.merges_blank)(input, depth, values);
         merges.then(|| (a.0.ancestor(depth), (self.merged)(values)))
     }
 
@@ -304,6 +310,59 @@ fn no_wrong_pool_is_missed() {
             ..Program::right()
         },
     );
+}
+
+#[test]
+fn no_wrong_rule_of_blank_sky_is_missed() {
+    let drawn = Drawn::<u32>::new(33);
+    macro_rules! found {
+        ($wrong:literal, $rule:expr) => {
+            let program = Program {
+                merges_blank: $rule,
+                ..Program::right()
+            };
+            drawn.assert_found($wrong, program);
+        };
+    }
+    found!("by chi alone", |_, _, _| false);
+    found!("below M too", |_, _, counts| counts == [0; 4]);
+    found!("the child's depth", |input, parent, counts| {
+        parent + 1 >= input.depth_threshold && counts == [0; 4]
+    });
+    found!("above M alone", |input, parent, counts| {
+        parent > input.depth_threshold && counts == [0; 4]
+    });
+    found!("at T = 0 alone", |input, parent, counts| {
+        input.chi2_threshold.0 == 0.0 && is_blank(input, parent, counts)
+    });
+    found!("at T below 0 alone", |input, parent, counts| {
+        input.chi2_threshold.0 < 0.0 && is_blank(input, parent, counts)
+    });
+    found!("at a finite T alone", |input, parent, counts| {
+        input.chi2_threshold.0.is_finite() && is_blank(input, parent, counts)
+    });
+    found!("three blanks and a source", |input, parent, counts| {
+        parent >= input.depth_threshold && counts.iter().sum::<u32>() <= 1
+    });
+    found!("four that are equal", |input, parent, counts| {
+        parent >= input.depth_threshold && counts == [counts[0]; 4]
+    });
+}
+
+fn is_blank(input: &Input<u32>, parent_depth: u8, counts: [u32; 4]) -> bool {
+    parent_depth >= input.depth_threshold && counts == [0; 4]
+}
+
+/// Four products of 0 are judged by their chi.
+#[test]
+fn no_rule_of_blank_sky_for_products_is_missed() {
+    let blank = Program {
+        merges_blank: |input, parent, densities| {
+            parent >= input.depth_threshold && densities == [Float(0.0); 4]
+        },
+        ..Program::right()
+    };
+    Drawn::<Float>::new(34).assert_found("four densities of 0 at any T", blank);
 }
 
 #[test]

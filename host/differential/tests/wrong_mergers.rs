@@ -9,8 +9,18 @@ use differential::{
 
 const DRAWN: usize = 200_000;
 
+/// The parent's depth less M.
+fn above<V>(call: &Call<V>) -> i16 {
+    call.quad.parent_depth as i16 - call.depth_threshold as i16
+}
+
 fn merges<V>(chi: f64, call: &Call<V>) -> bool {
-    call.quad.parent_depth >= call.depth_threshold && chi < call.chi2_threshold.0
+    above(call) >= 0 && chi < call.chi2_threshold.0
+}
+
+/// Whether four counts are merged whatever their chi is.
+fn merges_blank(call: &Call<u32>) -> bool {
+    above(call) >= 0 && call.quad.values == [0; 4]
 }
 
 fn drawn_counts() -> impl Iterator<Item = Call<u32>> {
@@ -30,10 +40,10 @@ fn assert_found(wrong: &str, differing: usize) {
 /// The rule is asked the parent's depth less M, chi, and T.
 fn assert_rule_is_found(wrong: &str, rule: fn(i16, f64, f64) -> bool) {
     fn differs<V>(rule: fn(i16, f64, f64) -> bool, chi: f64, call: &Call<V>) -> bool {
-        let above = call.quad.parent_depth as i16 - call.depth_threshold as i16;
-        rule(above, chi, call.chi2_threshold.0) != merges(chi, call)
+        rule(above(call), chi, call.chi2_threshold.0) != merges(chi, call)
     }
-    let counts = drawn_counts().filter(|call| differs(rule, call.quad.chi(), call));
+    let by_chi = drawn_counts().filter(|call| !merges_blank(call));
+    let counts = by_chi.filter(|call| differs(rule, call.quad.chi(), call));
     assert_found(wrong, counts.count());
     let densities = drawn_densities().filter(|call| differs(rule, call.quad.chi(), call));
     assert_found(wrong, densities.count());
@@ -48,6 +58,51 @@ fn no_wrong_rule_is_missed() {
     assert_rule_is_found("T as an f32", |above, chi, t| {
         above >= 0 && chi < t as f32 as f64
     });
+}
+
+/// The rule is asked, beside chi below T, the parent's depth less M, T, and the counts.
+fn assert_rule_of_blanks_is_found(wrong: &str, rule: fn(i16, f64, [u32; 4]) -> bool) {
+    let differing = drawn_counts().filter(|call| {
+        let wrong = rule(above(call), call.chi2_threshold.0, call.quad.values);
+        let by_chi = merges(call.quad.chi(), call);
+        (wrong || by_chi) != (merges_blank(call) || by_chi)
+    });
+    assert_found(wrong, differing.count());
+}
+
+#[test]
+fn no_wrong_rule_of_blank_quads_is_missed() {
+    assert_rule_of_blanks_is_found("by chi alone", |_, _, _| false);
+    assert_rule_of_blanks_is_found("below M too", |_, _, n| n == [0; 4]);
+    assert_rule_of_blanks_is_found("the child's depth", |above, _, n| {
+        above >= -1 && n == [0; 4]
+    });
+    assert_rule_of_blanks_is_found("above M alone", |above, _, n| above > 0 && n == [0; 4]);
+    assert_rule_of_blanks_is_found("at T = 0 alone", |above, t, n| {
+        above >= 0 && t == 0.0 && n == [0; 4]
+    });
+    assert_rule_of_blanks_is_found("at T below 0 alone", |above, t, n| {
+        above >= 0 && t < 0.0 && n == [0; 4]
+    });
+    assert_rule_of_blanks_is_found("at a finite T alone", |above, t, n| {
+        above >= 0 && t.is_finite() && n == [0; 4]
+    });
+    assert_rule_of_blanks_is_found("three blanks and a source", |above, _, n| {
+        above >= 0 && n.iter().filter(|&&n| n > 0).count() <= 1 && n.iter().all(|&n| n <= 1)
+    });
+    assert_rule_of_blanks_is_found("four that are equal", |above, _, n| {
+        above >= 0 && n == [n[0]; 4]
+    });
+}
+
+/// Four densities of 0 are judged by their chi.
+#[test]
+fn no_rule_of_blank_quads_for_densities_is_missed() {
+    let differing = drawn_densities().filter(|call| {
+        let blank = above(call) >= 0 && call.quad.densities() == [0.0; 4];
+        blank && !merges(call.quad.chi(), call)
+    });
+    assert_found("four densities of 0 at any T", differing.count());
 }
 
 fn sum([x0, x1, x2, x3]: [f64; 4]) -> f64 {
@@ -72,7 +127,8 @@ fn inverse(n: [f64; 4]) -> [f64; 4] {
 }
 
 fn assert_count_chi_is_found(wrong: &str, chi: fn([f64; 4]) -> f64) {
-    let differing = drawn_counts().filter(|call| {
+    let by_chi = drawn_counts().filter(|call| !merges_blank(call));
+    let differing = by_chi.filter(|call| {
         let wrong = chi(call.quad.values.map(f64::from));
         merges(wrong, call) != merges(call.quad.chi(), call)
     });

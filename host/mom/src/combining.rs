@@ -93,8 +93,8 @@ fn pool_word(
 /// keeps its count, a cell that both have gets the sum. Where an entry of one map has entries of the
 /// other in it, it is split: each of the four children gets a quarter of its count, and the first
 /// ones one more each, as many as are left over; so on, level by level. What comes out is merged
-/// under the two thresholds. Every place after the entries is 0. A refused call leaves both buffers
-/// as they were.
+/// under the two thresholds, as [`crate::add_counts`] merges: blank sky at any chi-square threshold.
+/// Every place after the entries is 0. A refused call leaves both buffers as they were.
 ///
 /// Refused by 1: a map's depth is over 29; then by 2: the depth threshold is over 29; then by 3: the
 /// chi-square threshold is a NaN; then by 4: the zuniqs and counts of a map, or of the output, differ

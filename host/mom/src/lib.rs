@@ -2,10 +2,11 @@
 //!
 //! A cell is a depth, 0 to 29, and a hash below N(depth) = 12 × 4^depth (HEALPix, nested). Its
 //! zuniq is (2 × hash + 1) × 4^(29 − depth). The values of four children of one cell may be merged
-//! into one of their parent. A map of a depth is given by its zuniqs: it is valid where each is a
-//! valid zuniq, none is of a deeper cell, they rise strictly and no two of their cells overlap. In
-//! [`rows`] it comes as bytes, which [`columns`] lays out by byte column for a disk. A [`narrow`] map
-//! has u32 zuniqs and a depth of at most 13; [`moving`] goes from one width to the other.
+//! into one of their parent: where their chi-square is low, and where all are counts of 0, which is
+//! blank sky. A map of a depth is given by its zuniqs: it is valid where each is a valid zuniq, none is
+//! of a deeper cell, they rise strictly and no two of their cells overlap. In [`rows`] it comes as
+//! bytes, which [`columns`] lays out by byte column for a disk. A [`narrow`] map has u32 zuniqs and a
+//! depth of at most 13; [`moving`] goes from one width to the other.
 //! Nothing here panics, whatever the arguments: a call that can't be answered is refused, and a
 //! [`Refusal`] says in words why, and has the number and the place of the scope's table.
 //!
@@ -18,6 +19,7 @@
 //! let merge = |chi2_threshold| mom::chi2_count_merger(0, 0, chi2_threshold, [1, 2, 4, 4]).unwrap();
 //! assert_eq!(merge(3.5), mom::CountMerge::Merged(11));
 //! assert_eq!(merge(3.0), mom::CountMerge::Kept(3.0));
+//! assert_eq!(mom::chi2_count_merger(0, 0, 0.0, [0; 4]), Ok(mom::CountMerge::Merged(0)));
 //! ```
 
 pub mod columns;
@@ -117,9 +119,10 @@ pub fn are_overlapping(zuniq_l: u64, zuniq_r: u64) -> Result<bool, Refusal> {
 }
 
 /// The counts of the four children of a cell at `parent_depth`, merged where that is at least
-/// `depth_threshold` and their chi-square is below `chi2_threshold`. Refused by 1: the parent depth
-/// is over 28; then by 2: the depth threshold is over 29; then by 3: the chi-square threshold is a
-/// NaN; then by 10: the sum of the four is no u32.
+/// `depth_threshold` and their chi-square is below `chi2_threshold`. Four counts of 0, blank sky, are
+/// merged at any `chi2_threshold`, from `depth_threshold` on. Refused by 1: the parent depth is over
+/// 28; then by 2: the depth threshold is over 29; then by 3: the chi-square threshold is a NaN; then by
+/// 10: the sum of the four is no u32.
 pub fn chi2_count_merger(
     parent_depth: u8,
     depth_threshold: u8,
@@ -143,9 +146,10 @@ pub fn chi2_count_merger(
     })
 }
 
-/// The densities of the four children, merged under the same conditions. Refused by 1, 2 and 3 as
-/// for counts; then by 9: a density is NaN, infinite or below 0 (−0 is none of these); the place is
-/// the first such child.
+/// The densities of the four children, merged where `parent_depth` is at least `depth_threshold` and
+/// their chi-square is below `chi2_threshold`; four of 0 are judged by it like others. Refused by 1, 2
+/// and 3 as for counts; then by 9: a density is NaN, infinite or below 0 (−0 is none of these); the
+/// place is the first such child.
 pub fn chi2_density_merger(
     parent_depth: u8,
     depth_threshold: u8,
@@ -207,9 +211,10 @@ pub fn density_of_count(depth: u8, count: u32) -> Result<f64, Refusal> {
 
 /// Adds cells of that depth, given by `hashes` and their counts in `batch`, to the map in the first
 /// `held` places of `zuniqs` and `counts`. Each cell is appended; while the last four entries are
-/// the children of one parent and the count merger accepts them, they are replaced by the parent.
-/// Cells of depth 0 have no parent, and stay as they are. Every place after the entries is 0. A
-/// refused call leaves both buffers as they were.
+/// the children of one parent and the count merger accepts them, they are replaced by the parent: so
+/// blank sky is merged at any chi-square threshold, as far up as the depth threshold lets it. Cells of
+/// depth 0 have no parent, and stay as they are. Every place after the entries is 0. A refused call
+/// leaves both buffers as they were.
 ///
 /// Refused by 1: the depth is over 29; then by 2: the depth threshold is over 29; then by 3: the
 /// chi-square threshold is a NaN; then by 4: the buffers or the batch's two parts differ in length,

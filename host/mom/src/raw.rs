@@ -395,6 +395,19 @@ mod tests {
         );
     }
 
+    /// The word of four blanks that are merged is that of a count of 0, and of nothing else.
+    #[test]
+    fn merged_blanks_answer_0_and_write_no_chi() {
+        for t in [0.0, -0.0, -1.0, f64::NEG_INFINITY, f64::INFINITY] {
+            assert_eq!(count_merger(0, 0, t, [0; 4]), (0, UNTOUCHED_F64));
+            assert_eq!(count_merger(28, 28, t, [0; 4]), (0, UNTOUCHED_F64));
+            let (word, chi) = count_merger(0, 1, t, [0; 4]);
+            assert_eq!((word, chi.to_bits()), (refused(KEPT, 0), 0));
+        }
+        let word = count_merger(0, 0, f64::NAN, [0; 4]);
+        assert_eq!(word, (refused(3, 0), UNTOUCHED_F64));
+    }
+
     #[test]
     fn merged_and_kept_densities_are_told_apart_by_the_word_alone() {
         let densities = [16.0; 4];

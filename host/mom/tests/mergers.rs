@@ -1,7 +1,7 @@
-//! The mergers on small and on extreme values, against the definitions of the scope's section 2,
-//! written here as they are read there.
+//! The mergers on small and on extreme values, against the definitions of the scope's section 2 and of
+//! note 4, written here as they are read there.
 
-use mom::{chi2_count_merger, chi2_density_merger, CountMerge, DensityMerge};
+use mom::{chi2_count_merger, chi2_density_merger, CountMerge, DensityMerge, Refusal};
 
 const PI: f64 = f64::from_bits(0x4009_21fb_5444_2d18);
 
@@ -74,12 +74,17 @@ fn all_densities(p: u8) -> Vec<[f64; 4]> {
     quadruples(&values).collect()
 }
 
+/// Blank ones apart, which T = chi = 0 doesn't keep.
 #[test]
 fn no_count_is_merged_but_below_t_and_no_chi_is_another() {
     for counts in all_counts() {
         let chi = chi_of_counts(counts);
         let merged = Ok(CountMerge::Merged(counts.iter().sum()));
-        for (p, m, t) in [(0, 0, chi), (28, 29, f64::INFINITY), (3, 4, next_up(chi))] {
+        if counts != [0; 4] {
+            let kept = kept_counts(0, 0, chi, counts);
+            assert_eq!(kept.to_bits(), chi.to_bits(), "{counts:?}");
+        }
+        for (p, m, t) in [(28, 29, f64::INFINITY), (3, 4, next_up(chi))] {
             let kept = kept_counts(p, m, t, counts);
             assert_eq!(kept.to_bits(), chi.to_bits(), "{counts:?} {m}");
         }
@@ -87,6 +92,99 @@ fn no_count_is_merged_but_below_t_and_no_chi_is_another() {
             assert_eq!(chi2_count_merger(p, m, t, counts), merged, "{counts:?} {t}");
         }
     }
+}
+
+/// Of either sign, the least and the largest, and about 0.
+const THRESHOLDS: [f64; 12] = [
+    0.0,
+    -0.0,
+    5e-324,
+    -5e-324,
+    1.0,
+    -1.0,
+    3.5,
+    -3.5,
+    f64::MAX,
+    -f64::MAX,
+    f64::INFINITY,
+    f64::NEG_INFINITY,
+];
+
+/// "Four siblings of count 0 now merge at any T, where the parent depth is at least M."
+#[test]
+fn no_threshold_keeps_four_blanks_from_m_on() {
+    for t in THRESHOLDS {
+        for p in 0..=28 {
+            for m in 0..=29 {
+                let answer = chi2_count_merger(p, m, t, [0; 4]);
+                if p >= m {
+                    assert_eq!(answer, Ok(CountMerge::Merged(0)), "{p} {m} {t}");
+                } else {
+                    let chi = kept_counts(p, m, t, [0; 4]);
+                    assert_eq!(chi.to_bits(), 0, "{p} {m} {t}");
+                }
+            }
+        }
+    }
+}
+
+/// A NaN is no T, for blanks neither.
+#[test]
+fn no_nan_is_taken_for_any_threshold() {
+    for t in [f64::NAN, -f64::NAN] {
+        for m in [0, 1, 29] {
+            let answer = chi2_count_merger(0, m, t, [0; 4]);
+            assert_eq!(answer, Err(Refusal::InvalidThresholdOrFactor), "{m}");
+        }
+    }
+}
+
+/// With a count above 0 among the four, chi is what it goes by: three blanks and a source have chi 1.
+#[test]
+fn no_four_are_blank_but_four_of_0() {
+    for t in THRESHOLDS {
+        for counts in all_counts() {
+            if counts == [0; 4] {
+                continue;
+            }
+            let chi = chi_of_counts(counts);
+            let expected = match chi < t {
+                true => CountMerge::Merged(counts.iter().sum()),
+                false => CountMerge::Kept(chi),
+            };
+            assert_eq!(
+                chi2_count_merger(0, 0, t, counts),
+                Ok(expected),
+                "{t} {counts:?}"
+            );
+        }
+        for child in 0..4 {
+            let mut counts = [0; 4];
+            counts[child] = 1;
+            let merged = chi2_count_merger(0, 0, t, counts) == Ok(CountMerge::Merged(1));
+            assert_eq!(merged, t > 1.0, "{t} {counts:?}");
+        }
+    }
+}
+
+/// Four densities of 0 have chi −4, up to rounding, and are kept at a T of that or less.
+#[test]
+fn no_four_densities_of_0_are_taken_for_blank_sky() {
+    for t in THRESHOLDS {
+        for p in [0, 28] {
+            let chi = chi_of_densities(p, [0.0; 4]);
+            let expected = match chi < t {
+                true => DensityMerge::Merged(0.0),
+                false => DensityMerge::Kept(chi),
+            };
+            assert_eq!(
+                chi2_density_merger(p, 0, t, [0.0; 4]),
+                Ok(expected),
+                "{p} {t}"
+            );
+        }
+    }
+    kept_densities(0, 0, f64::NEG_INFINITY, [0.0; 4]);
 }
 
 #[test]
@@ -123,6 +221,11 @@ fn no_case_of_the_scope_is_missed() {
     assert_eq!(merge(5.0, [0, 0, 0, 5]), CountMerge::Kept(5.0));
     assert_eq!(merge(6.0, [0, 0, 0, 5]), CountMerge::Merged(5));
     assert_eq!(merge(0.0, [4, 4, 4, 4]), CountMerge::Kept(0.0));
+    // Note 4.
+    assert_eq!(merge(0.0, [0, 0, 0, 0]), CountMerge::Merged(0));
+    assert_eq!(merge(-1.0, [0, 0, 0, 0]), CountMerge::Merged(0));
+    let kept = chi2_count_merger(0, 1, 0.0, [0, 0, 0, 0]);
+    assert_eq!(kept, Ok(CountMerge::Kept(0.0)));
 }
 
 /// "A zero makes w infinite and chi = sum."

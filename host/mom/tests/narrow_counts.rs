@@ -1,5 +1,5 @@
-//! Adding to narrow maps: the scope's cases of building, each refusal, and the same cells added to a
-//! wide map.
+//! Adding to narrow maps: the scope's cases of building, blank sky, each refusal, and the same cells
+//! added to a wide map.
 
 use mom::{
     narrow::{add_counts, from_zuniq, to_zuniq},
@@ -65,10 +65,58 @@ fn no_base_cell_is_merged() {
     }
 }
 
-/// At both ends of the sky and at the largest depth, through all 13 merges.
+/// Of either sign, at 0 and far from it.
+const THRESHOLDS: [f64; 7] = [
+    0.0,
+    -0.0,
+    -1.0,
+    -f64::MAX,
+    f64::NEG_INFINITY,
+    5e-324,
+    f64::INFINITY,
+];
+
+/// "Four siblings of count 0 now merge at any T, where the parent depth is at least M": level by level,
+/// in however many batches, up to the largest depth.
+#[test]
+fn no_blank_sky_is_left_apart_and_none_is_merged_below_m() {
+    for t in THRESHOLDS {
+        for depth in [2, 13] {
+            let cells: Vec<(u32, u32)> = (0..16).map(|hash| (hash, 0)).collect();
+            for (m, depth_of_merged) in [(0, depth - 2), (depth - 1, depth - 1), (depth, depth)] {
+                let stay = 0..4u32.pow((depth_of_merged - (depth - 2)) as u32);
+                let entries: Vec<Entry> = stay.map(|hash| (depth_of_merged, hash, 0)).collect();
+                assert_built(depth, m, t, &cells, &entries);
+            }
+        }
+        let base: Vec<(u32, u32)> = (0..12).map(|hash| (hash, 0)).collect();
+        let kept: Vec<Entry> = (0..12).map(|hash| (0, hash, 0)).collect();
+        assert_built(0, 0, t, &base, &kept);
+    }
+}
+
+/// A single source, in cell 5, keeps its siblings apart where chi isn't below T, and nothing else.
+#[test]
+fn no_source_is_lost_in_blank_sky_and_none_keeps_what_lies_beside_it() {
+    let cells: Vec<(u32, u32)> = (0..16).map(|hash| (hash, (hash == 5) as u32)).collect();
+    let quad = [(2, 4, 0), (2, 5, 1), (2, 6, 0), (2, 7, 0)];
+    let apart = [&[(1, 0, 0)], &quad[..], &[(1, 2, 0), (1, 3, 0)]].concat();
+    for t in [1.0, 0.0, -1.0, f64::NEG_INFINITY] {
+        assert_built(2, 0, t, &cells, &apart);
+    }
+    assert_built(2, 0, 1.5, &cells, &[(0, 0, 1)]);
+}
+
+/// At both ends of the sky and at the largest depth, through all 13 merges; also of blank sky, at a T
+/// that no chi is below.
 #[test]
 fn no_merge_is_left_undone_however_far_it_goes() {
-    for top in [0, 11] {
+    for (top, t, total) in [
+        (0, f64::INFINITY, 7),
+        (11, f64::INFINITY, 7),
+        (0, f64::NEG_INFINITY, 0),
+        (11, f64::NEG_INFINITY, 0),
+    ] {
         let (mut zuniqs, mut counts) = (vec![0; 50], vec![0; 50]);
         // Children 0 to 2 on every depth below the base cell, down its last ones.
         let mut held = 0;
@@ -80,11 +128,10 @@ fn no_merge_is_left_undone_however_far_it_goes() {
             }
         }
         let last = (top << 26) + (1 << 26) - 1;
-        let t = f64::INFINITY;
-        let added = add_counts(13, 0, t, held, &mut zuniqs, &mut counts, &[last], &[7]);
-        let (entries, total) = (1, 7);
+        let added = add_counts(13, 0, t, held, &mut zuniqs, &mut counts, &[last], &[total]);
+        let entries = 1;
         assert_eq!(added, Ok(Added { entries, total }));
-        assert_eq!((zuniqs[0], counts[0]), (to_zuniq(0, top).unwrap(), 7));
+        assert_eq!((zuniqs[0], counts[0]), (to_zuniq(0, top).unwrap(), total));
         assert!(zuniqs[1..].iter().all(|&zuniq| zuniq == 0));
         assert!(counts[1..].iter().all(|&count| count == 0));
     }
@@ -176,17 +223,28 @@ fn no_total_that_is_a_u32_is_refused() {
     assert_eq!((z, n), ([1, 3, 5], [u32::MAX - 2, 1, 1]));
 }
 
-/// The same cells with the same counts make the same map in both widths.
+/// The same cells with the same counts make the same map in both widths; also where most are blank.
 #[test]
 fn no_cell_is_merged_otherwise_than_in_a_wide_map() {
-    let counts = |seed: u32| (0..64).map(move |i| (i * i + seed * i) % 7 / 3);
+    let counts = |seed: u32, every: u32| {
+        let count = move |i| (i * i + seed * i) % 7 / 3;
+        (0..64).map(move |i| if i % every == 0 { count(i) } else { 0 })
+    };
     for depth in [3, 8, 13] {
         let n = 12 << (2 * depth);
         for from in [0, 5, n - 64] {
             let hashes: Vec<u32> = (from..from + 64).filter(|hash| hash % 29 != 9).collect();
             let of_wide: Vec<u64> = hashes.iter().map(|&hash| hash as u64).collect();
-            for (m, t) in [(0, 0.5), (0, 2.5), (2, 4.0), (12, f64::INFINITY)] {
-                let batch: Vec<u32> = counts(from % 5).take(hashes.len()).collect();
+            for (m, t, every) in [
+                (0, 0.5, 1),
+                (0, 2.5, 1),
+                (2, 4.0, 1),
+                (12, f64::INFINITY, 1),
+                (0, 0.0, 20),
+                (2, -1.0, 20),
+                (12, f64::NEG_INFINITY, 20),
+            ] {
+                let batch: Vec<u32> = counts(from % 5, every).take(hashes.len()).collect();
                 let (mut z, mut c) = (vec![7; 70], vec![7; 70]);
                 let ours = add_counts(depth, m, t, 0, &mut z, &mut c, &hashes, &batch);
                 let (mut wide_z, mut wide_c) = (vec![7; 70], vec![7; 70]);

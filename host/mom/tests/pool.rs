@@ -1,5 +1,5 @@
-//! Pooling two count maps by the scope: its cases, in both orders, and every refusal with its number
-//! and place.
+//! Pooling two count maps by the scope: its cases, and blank sky, in both orders, and every refusal with
+//! its number and place.
 
 use mom::{pool, to_zuniq, Added, Map, Refusal};
 
@@ -77,6 +77,7 @@ fn no_case_of_the_scope_is_missed() {
     assert_pooled(&l, &r, 1, 3.5, 4, &apart);
 }
 
+/// Kept by M, since no T keeps four of 0.
 #[test]
 fn no_remainder_goes_to_the_last_children() {
     for (count, split) in [
@@ -89,8 +90,59 @@ fn no_remainder_goes_to_the_last_children() {
     ] {
         let (l, r) = (map(3, &[(2, 7, count)]), map(3, &[(3, 30, 0)]));
         let entries = [0, 1, 2, 3].map(|child| (3, 28 + child, split[child as usize]));
-        assert_pooled(&l, &r, 0, f64::NEG_INFINITY, 4, &entries);
+        assert_pooled(&l, &r, 3, f64::NEG_INFINITY, 4, &entries);
+        if count > 0 {
+            assert_pooled(&l, &r, 0, f64::NEG_INFINITY, 4, &entries);
+        }
     }
+}
+
+const NOT_ABOVE_0: [f64; 5] = [0.0, -0.0, -1.0, -f64::MAX, f64::NEG_INFINITY];
+
+/// "Four siblings of count 0 now merge at any T, where the parent depth is at least M": those of one map,
+/// of both, and those that a blank entry is split into, however far down.
+#[test]
+fn no_blank_sky_is_left_apart_and_none_is_merged_below_m() {
+    let quad = [(1, 0, 0), (1, 1, 0), (1, 2, 0), (1, 3, 0)];
+    let base = map(0, &[(0, 0, 0)]);
+    for t in NOT_ABOVE_0.into_iter().chain([5e-324, f64::INFINITY]) {
+        for cut in 0..=4 {
+            let (l, r) = (map(1, &quad[..cut]), map(1, &quad[cut..]));
+            assert_pooled(&l, &r, 0, t, 4, &[(0, 0, 0)]);
+            assert_pooled(&l, &r, 1, t, 4, &quad);
+        }
+        assert_pooled(&map(1, &quad), &map(1, &quad), 0, t, 4, &[(0, 0, 0)]);
+        assert_pooled(&base, &map(1, &quad[1..2]), 0, t, 4, &[(0, 0, 0)]);
+        assert_pooled(&base, &map(1, &quad[1..2]), 1, t, 4, &quad);
+        for last in [0, 1 << 57, (1 << 58) - 1] {
+            let deep = map(29, &[(29, last, 0)]);
+            assert_pooled(&base, &deep, 0, t, 88, &[(0, 0, 0)]);
+            assert_eq!(pooled(&base, &deep, 29, t, 88).map(|map| map.len()), Ok(88));
+            // Down from (20, ..), which is merged: three siblings on each of the depths 1 to 20.
+            assert_eq!(pooled(&base, &deep, 20, t, 88).map(|map| map.len()), Ok(61));
+        }
+        let none = map(0, &[]);
+        assert_pooled(
+            &map(0, &[(0, 5, 0), (0, 6, 0)]),
+            &none,
+            0,
+            t,
+            2,
+            &[(0, 5, 0), (0, 6, 0)],
+        );
+    }
+}
+
+/// (0, 0) of 1 is split into 1, 0, 0, 0: three blanks and a source have chi 1. A blank quad beside them is
+/// merged.
+#[test]
+fn no_source_is_lost_in_blank_sky_and_none_keeps_what_lies_beside_it() {
+    let (l, r) = (map(0, &[(0, 0, 1)]), map(2, &[(2, 7, 0)]));
+    let apart = [(1, 0, 1), (1, 1, 0), (1, 2, 0), (1, 3, 0)];
+    for t in NOT_ABOVE_0.into_iter().chain([1.0]) {
+        assert_pooled(&l, &r, 0, t, 7, &apart);
+    }
+    assert_pooled(&l, &r, 0, 1.5, 7, &[(0, 0, 1)]);
 }
 
 #[test]

@@ -1,6 +1,6 @@
-//! What the program `mombuild` should print, written from section 7 of the scope. It shares nothing
-//! with the program: lines are split and fields parsed as Rust does it, and the map is made from
-//! the top down.
+//! What the program `mombuild` should print, written from section 7 of the scope, with its change
+//! requests. It shares nothing with the program: lines are split and fields parsed as Rust does it, and
+//! the map is made from the top down.
 
 /// A cell with its count: depth, hash, count.
 pub type Entry = (u8, u64, u32);
@@ -155,11 +155,15 @@ fn under(text: &Text, depth: u8, hash: u64, cells: &[(u64, u32)]) -> Vec<Entry> 
     }
 }
 
-/// The count of a cell whose entries these are, if they are its four children and are merged.
+/// The count of a cell whose entries these are, if they are its four children and are merged. Four of
+/// count 0 are "at any T" (note 4).
 fn merged(text: &Text, depth: u8, inside: &[Entry]) -> Option<u32> {
     let whole = inside.len() == 4 && inside.iter().all(|entry| entry.0 == depth + 1);
     if !whole || depth < text.depth_threshold {
         return None;
+    }
+    if inside.iter().all(|entry| entry.2 == 0) {
+        return Some(0);
     }
     let n: Vec<f64> = inside.iter().map(|entry| entry.2 as f64).collect();
     let sum = ((n[0] + n[1]) + n[2]) + n[3];

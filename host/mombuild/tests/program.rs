@@ -1,7 +1,7 @@
 //! The program beside the reading of the rules in `src/lib.rs`. Each test is named for what it
 //! rules out.
 
-use mombuild::{outcome, printed, printed_broken_off, Outcome};
+use mombuild::{outcome, printed, printed_broken_off, Entry, Outcome};
 use std::{
     collections::BTreeMap,
     env,
@@ -137,6 +137,27 @@ fn no_map_of_the_scope_is_missed() {
         "1,0,0\n0,4\n1,4\n2,4\n3,4\n",
         "1,0,4\n1,1,4\n1,2,4\n1,3,4\nend,4,16\n",
     );
+}
+
+/// "Four siblings of count 0 now merge at any T, where the parent depth is at least M." A text has no T
+/// below 0.
+#[test]
+fn no_blank_cells_are_left_apart_at_a_threshold_of_0() {
+    let blank = |cells: u64| (0..cells).map(|hash| format!("{hash},0"));
+    for thousandths in [0, 1, 3500, u32::MAX] {
+        let printed = |d, m| text(&format!("{d},{m},{thousandths}"), blank(16));
+        assert_prints(printed(2, 0), "0,0,0\nend,1,0\n");
+        assert_prints(printed(2, 1), "1,0,0\n1,1,0\n1,2,0\n1,3,0\nend,4,0\n");
+        let kept = (0..16).map(|hash| format!("2,{hash},0\n"));
+        assert_prints(printed(2, 2), &(kept.collect::<String>() + "end,16,0\n"));
+    }
+    // As many as a text may hold are two cells of depth 23.
+    assert_prints(text("28,0,0", blank(2048)), "23,0,0\n23,1,0\nend,2,0\n");
+    let cells = "1,0,0\n2,4,0\n2,5,1\n2,6,0\n2,7,0\n1,2,0\n1,3,0\nend,7,1\n";
+    let source = (0..16).map(|hash| format!("{hash},{}", (hash == 5) as u8));
+    assert_prints(text("2,0,0", source.clone()), cells);
+    assert_prints(text("2,0,1000", source.clone()), cells);
+    assert_prints(text("2,0,1001", source), "0,0,1\nend,1,1\n");
 }
 
 /// Twelve monitors, one a base cell: as many entries, at any M and T. There is no thirteenth.
@@ -426,7 +447,8 @@ fn nearly_valid(random: &mut Random) -> Vec<u8> {
         1 + random.below(120)
     };
     let limit = 12u64 << (2 * depth.min(29));
-    let largest = [1, 2, 5, 100, u32::MAX as u64 / 40, u32::MAX as u64][random.below(6) as usize];
+    let largest = [0, 1, 2, 5, 100, u32::MAX as u64 / 40, u32::MAX as u64];
+    let largest = largest[random.below(7) as usize];
     let mut hash = 4 * random.below(limit / 4);
     for _ in 0..random.below(most) {
         let count = random.below(largest + 1);
@@ -488,6 +510,26 @@ fn no_generated_text_breaks_off_otherwise() {
     }
 }
 
+/// Whether blank cells are merged at a T of 0.
+fn merges_blanks_at_0(text: &[u8], entries: &[Entry]) -> bool {
+    let line = text.split(|&byte| byte == b'\n').next().unwrap_or_default();
+    let line = String::from_utf8_lossy(line);
+    let settings: Vec<u64> = line.split(',').filter_map(|n| n.parse().ok()).collect();
+    let is_merged = |&(depth, _, count): &Entry| count == 0 && u64::from(depth) < settings[0];
+    settings.len() == 3 && settings[2] == 0 && entries.iter().any(is_merged)
+}
+
+/// What the generated texts are to bring.
+fn kind_of(text: &[u8]) -> String {
+    match outcome(text) {
+        Outcome::Map(entries) if merges_blanks_at_0(text, &entries) => "blanks at 0".into(),
+        Outcome::Map(entries) if entries.is_empty() => "an empty map".into(),
+        Outcome::Map(entries) if entries.iter().any(|e| e.0 != entries[0].0) => "depths".into(),
+        Outcome::Map(_) => "one depth".into(),
+        Outcome::Refused { number, .. } => format!("refused by {number}"),
+    }
+}
+
 /// Three thousand texts, and more for as long as MOMBUILD_SECONDS says.
 #[test]
 fn no_generated_text_is_read_otherwise() {
@@ -512,20 +554,14 @@ fn no_generated_text_is_read_otherwise() {
             "{:?}",
             String::from_utf8_lossy(&text)
         );
-        let kind = match outcome(&text) {
-            Outcome::Map(entries) if entries.is_empty() => "an empty map".into(),
-            Outcome::Map(entries) if entries.iter().any(|e| e.0 != entries[0].0) => "depths".into(),
-            Outcome::Map(_) => "one depth".into(),
-            Outcome::Refused { number, .. } => format!("refused by {number}"),
-        };
-        *outcomes.entry(kind).or_default() += 1;
+        *outcomes.entry(kind_of(&text)).or_default() += 1;
     }
     println!("{texts} generated texts: {outcomes:?}");
     for number in [0, 1, 2, 7, 8, 10] {
         let refused = outcomes.get(&format!("refused by {number}"));
         assert!(refused.is_some_and(|&texts| texts >= 10), "{outcomes:?}");
     }
-    for kind in ["an empty map", "depths", "one depth"] {
+    for kind in ["an empty map", "depths", "one depth", "blanks at 0"] {
         assert!(
             outcomes.get(kind).is_some_and(|&texts| texts >= 10),
             "{outcomes:?}"

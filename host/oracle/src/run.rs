@@ -1,5 +1,9 @@
 //! Calls of the originals, section by section of the scope, with no logic of our own beyond the
-//! closures that the scope defines. `Z` is u64 or u32, the two zuniq types of the original.
+//! closures that the scope and its change requests define. `Z` is u64 or u32, the two zuniq types of
+//! the original.
+//!
+//! Counts are merged by the original's merger behind one test of ours, that of blank quads
+//! (`count_merger`). The calls named `by_chi` have its merger alone, as the original is.
 //!
 //! A call panics where the original does: under `checked` where its arithmetic overflows.
 
@@ -60,8 +64,23 @@ pub fn are_overlapping<Z: ZUniqHashT>(zuniq_l: Z, zuniq_r: Z) -> bool {
 
 // ---- Section 2: mergers. `parent` is the parent's depth, `m` and `t` are the scope's M and T.
 
+/// "Four siblings of count 0 now merge at any T, where the parent depth is at least M." (Note 4.) All
+/// others are handed to the original's merger. No call is made with a T that is NaN.
+fn count_merger<Z: ZUniqHashT>(m: u8, t: f64) -> impl Fn(u8, Z, [u32; 4]) -> Result<u32, [u32; 4]> {
+    let by_chi = new_chi2_count_merger_with_depth_threshold(t, m);
+    move |parent, hash, counts| match counts {
+        [0, 0, 0, 0] if parent >= m => Ok(0),
+        _ => by_chi(parent, hash, counts),
+    }
+}
+
 /// The merged count, or none where the four are kept.
 pub fn merge_counts(parent: u8, m: u8, t: f64, counts: [u32; 4]) -> Option<u32> {
+    count_merger::<u64>(m, t)(parent, 0, counts).ok()
+}
+
+/// The same by the original's merger alone, which keeps a blank quad where T is not above 0.
+pub fn merge_counts_by_chi(parent: u8, m: u8, t: f64, counts: [u32; 4]) -> Option<u32> {
     new_chi2_count_merger_with_depth_threshold::<u64, u32>(t, m)(parent, 0, counts).ok()
 }
 
@@ -74,7 +93,7 @@ pub fn merge_densities(parent: u8, m: u8, t: f64, densities: [f64; 4]) -> Option
 /// finds it. None stands for NaN and for infinity, which no T exceeds; a zero is answered as +0,
 /// since no T tells it from −0.
 pub fn chi_of_counts(parent: u8, counts: [u32; 4]) -> Option<f64> {
-    chi_by_bisection(|t| merge_counts(parent, 0, t, counts).is_some())
+    chi_by_bisection(|t| merge_counts_by_chi(parent, 0, t, counts).is_some())
 }
 
 pub fn chi_of_densities(parent: u8, densities: [f64; 4]) -> Option<f64> {
@@ -83,7 +102,9 @@ pub fn chi_of_densities(parent: u8, densities: [f64; 4]) -> Option<f64> {
 
 /// The same, in two calls of the original where the guess is right.
 pub fn chi_of_counts_near(guess: f64, parent: u8, counts: [u32; 4]) -> Option<f64> {
-    chi_near(guess, |t| merge_counts(parent, 0, t, counts).is_some())
+    chi_near(guess, |t| {
+        merge_counts_by_chi(parent, 0, t, counts).is_some()
+    })
 }
 
 pub fn chi_of_densities_near(guess: f64, parent: u8, densities: [f64; 4]) -> Option<f64> {
@@ -177,6 +198,17 @@ pub fn build_counts<Z: ZUniqHashT>(
     t: f64,
     cells: impl Iterator<Item = (Z, u32)>,
 ) -> Vec<(Z, u32)> {
+    MomVecImpl::from_hpx_sorted_entries(depth, cells, count_merger(m, t))
+        .owned_entries()
+        .collect()
+}
+
+pub fn build_counts_by_chi<Z: ZUniqHashT>(
+    depth: u8,
+    m: u8,
+    t: f64,
+    cells: impl Iterator<Item = (Z, u32)>,
+) -> Vec<(Z, u32)> {
     let merger = new_chi2_count_merger_with_depth_threshold(t, m);
     MomVecImpl::from_hpx_sorted_entries(depth, cells, merger)
         .owned_entries()
@@ -216,13 +248,26 @@ pub fn pool<Z: ZUniqHashT>(
     m: u8,
     t: f64,
 ) -> (u8, Vec<(Z, u32)>) {
-    let pooled = MomVecImpl::merge(
-        left,
-        right,
-        |_, _, count| split_count(count),
-        pool_rule,
-        new_chi2_count_merger_with_depth_threshold(t, m),
-    );
+    pool_with(left, right, count_merger(m, t))
+}
+
+pub fn pool_by_chi<Z: ZUniqHashT>(
+    left: MomVecImpl<Z, u32>,
+    right: MomVecImpl<Z, u32>,
+    m: u8,
+    t: f64,
+) -> (u8, Vec<(Z, u32)>) {
+    let merger = new_chi2_count_merger_with_depth_threshold(t, m);
+    pool_with(left, right, merger)
+}
+
+fn pool_with<Z: ZUniqHashT>(
+    left: MomVecImpl<Z, u32>,
+    right: MomVecImpl<Z, u32>,
+    merger: impl Fn(u8, Z, [u32; 4]) -> Result<u32, [u32; 4]>,
+) -> (u8, Vec<(Z, u32)>) {
+    let split = |_, _, count| split_count(count);
+    let pooled = MomVecImpl::merge(left, right, split, pool_rule, merger);
     (pooled.depth_max(), pooled.owned_entries().collect())
 }
 

@@ -20,11 +20,33 @@ fn counts_merge_below_the_threshold_alone() {
     assert_eq!(run::merge_counts(0, 1, 6.0, [0, 0, 0, 5]), None);
 }
 
+const BELOW: [f64; 5] = [0.0, -0.0, -5e-324, -1.0, f64::NEG_INFINITY];
+
+/// From M on, four blanks are merged at any T; the original alone has their chi below T.
+#[test]
+fn blank_quads_merge_at_any_threshold_from_m_on() {
+    for t in BELOW {
+        assert_eq!(run::merge_counts(0, 0, t, [0; 4]), Some(0));
+        assert_eq!(run::merge_counts(28, 28, t, [0; 4]), Some(0));
+        assert_eq!(run::merge_counts(0, 1, t, [0; 4]), None);
+        assert_eq!(run::merge_counts_by_chi(0, 0, t, [0; 4]), None);
+        for counts in [[0, 0, 0, 1], [1, 0, 0, 0], [4; 4]] {
+            assert_eq!(run::merge_counts(0, 0, t, counts), None);
+        }
+    }
+    for t in [5e-324, f64::INFINITY] {
+        assert_eq!(run::merge_counts(0, 0, t, [0; 4]), Some(0));
+        assert_eq!(run::merge_counts_by_chi(0, 0, t, [0; 4]), Some(0));
+        assert_eq!(run::merge_counts(0, 1, t, [0; 4]), None);
+    }
+}
+
 #[test]
 fn bisection_finds_the_chi() {
     assert_eq!(run::chi_of_counts(0, [1, 2, 4, 4]), Some(3.0));
     assert_eq!(run::chi_of_counts(0, [0, 0, 0, 5]), Some(5.0));
     assert_eq!(run::chi_of_counts(0, [4, 4, 4, 4]), Some(0.0));
+    assert_eq!(run::chi_of_counts(0, [0; 4]), Some(0.0));
     assert_eq!(run::chi_of_densities(0, [16.0; 4]), Some(0.0));
     assert_eq!(run::chi_of_densities(0, [f64::MAX; 4]), None);
 }
@@ -45,6 +67,7 @@ fn no_guess_changes_the_chi() {
         let counts = |counts| run::chi_of_counts_near(guess, 0, counts);
         assert_eq!(counts([1, 2, 4, 4]), Some(3.0));
         assert_eq!(counts([4, 4, 4, 4]).map(f64::to_bits), Some(0));
+        assert_eq!(counts([0; 4]).map(f64::to_bits), Some(0));
         let densities = |densities| run::chi_of_densities_near(guess, 0, densities);
         assert_eq!(densities([16.0; 4]).map(f64::to_bits), Some(0));
         assert_eq!(densities([f64::MAX; 4]), None);
@@ -67,6 +90,20 @@ fn full_quads_are_built_into_parents_no_shallower_than_m() {
 }
 
 #[test]
+fn blank_cells_are_built_into_parents_no_shallower_than_m() {
+    let blanks = || (0..16).map(|hash| (hash, 0));
+    let sixteen: Vec<_> = blanks().map(|(hash, n)| (2, hash, n)).collect();
+    for t in BELOW {
+        assert_eq!(run::build_counts(2, 0, t, blanks()), zuniqs(&[(0, 0, 0)]));
+        let four = zuniqs(&[(1, 0, 0), (1, 1, 0), (1, 2, 0), (1, 3, 0)]);
+        assert_eq!(run::build_counts(2, 1, t, blanks()), four);
+        assert_eq!(run::build_counts(2, 2, t, blanks()), zuniqs(&sixteen));
+        let by_chi = run::build_counts_by_chi(2, 0, t, blanks());
+        assert_eq!(by_chi, zuniqs(&sixteen));
+    }
+}
+
+#[test]
 fn the_pool_splits_the_larger_cell() {
     let pool = |t| {
         let left = run::mom(0, zuniqs(&[(0, 0, 10)]));
@@ -76,6 +113,24 @@ fn the_pool_splits_the_larger_cell() {
     let apart = zuniqs(&[(1, 0, 3), (1, 1, 6), (1, 2, 2), (1, 3, 2)]);
     assert_eq!(pool(2.0), (1, apart));
     assert_eq!(pool(3.5), (1, zuniqs(&[(0, 0, 13)])));
+}
+
+#[test]
+fn the_pool_of_blank_maps_is_merged_no_shallower_than_m() {
+    let maps = || {
+        let left = run::mom(0, zuniqs(&[(0, 0, 0)]));
+        let right = run::mom(1, zuniqs(&[(1, 1, 0)]));
+        (left, right)
+    };
+    let apart = zuniqs(&[(1, 0, 0), (1, 1, 0), (1, 2, 0), (1, 3, 0)]);
+    for t in BELOW {
+        let (left, right) = maps();
+        assert_eq!(run::pool(left, right, 0, t), (1, zuniqs(&[(0, 0, 0)])));
+        let (left, right) = maps();
+        assert_eq!(run::pool(left, right, 1, t), (1, apart.clone()));
+        let (left, right) = maps();
+        assert_eq!(run::pool_by_chi(left, right, 0, t), (1, apart.clone()));
+    }
 }
 
 #[test]
@@ -134,6 +189,10 @@ fn narrow_maps_are_checked_looked_up_and_built() {
     assert_eq!(run::get_overlapped_cells(&mom, last.0), [last]);
     let ones = (0..16u32).map(|hash| (hash, 1));
     assert_eq!(run::build_counts(2, 0, 3.5, ones), [(1 << 26, 16)]);
+    let blanks = || (0..16u32).map(|hash| (hash, 0));
+    assert_eq!(run::build_counts(2, 0, 0.0, blanks()), [(1 << 26, 0)]);
+    assert_eq!(run::build_counts(2, 1, 0.0, blanks()).len(), 4);
+    assert_eq!(run::build_counts_by_chi(2, 0, 0.0, blanks()).len(), 16);
 }
 
 #[test]

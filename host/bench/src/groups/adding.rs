@@ -13,7 +13,7 @@ use oracle::run;
 
 use super::Plan;
 use crate::{
-    inputs::{densities, first_cells, random_quarter, Cells},
+    inputs::{blank_sky, densities, first_cells, random_quarter, Cells},
     measure::{
         alone, contest, heading, heading_with_extra, row, row_alone, row_with_extra, timed, Extra,
         Rounds,
@@ -41,6 +41,8 @@ pub fn run(plan: Plan) {
         depth + 1
     );
     counts(plan, &work, &quarter, CHI2);
+    let work = format!("add counts, blank sky (nine cells of ten 0), all of depth {depth}, T 0");
+    counts(plan, &work, &blank_sky(depth), 0.0);
     for (name, chi2_threshold) in THRESHOLDS {
         let work = format!("add densities, all of depth {depth}, T {name}");
         add_densities(plan, &work, &densities(&all), chi2_threshold);

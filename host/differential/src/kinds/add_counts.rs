@@ -43,12 +43,16 @@ impl Value for u32 {
         .chi()
     }
 
+    fn are_blank(values: [u32; 4]) -> bool {
+        values == [0; 4]
+    }
+
     fn faulty() -> &'static [u32] {
         &[u32::MAX]
     }
 
     fn small() -> &'static [u32] {
-        &[1]
+        &[0, 1]
     }
 
     /// Most are short of what overflows together.

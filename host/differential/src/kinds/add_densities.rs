@@ -39,6 +39,10 @@ impl Value for Float {
         .chi()
     }
 
+    fn are_blank(_values: [Float; 4]) -> bool {
+        false
+    }
+
     fn faulty() -> &'static [Float] {
         &[
             Float(f64::NAN),

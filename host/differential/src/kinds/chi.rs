@@ -1,10 +1,11 @@
 //! The chi-squares of counts and of densities, by bits.
 //!
 //! Ours answers a chi with the four that it keeps: here by M, which is above the parent's depth, and
-//! by T, which no chi is below. The original keeps its chi to itself but merges exactly where chi is
-//! below T. So our chi is tried on it: kept at T = chi and merged at the next f64 above, it can have
-//! no other. Where that isn't so, and for a part of the inputs anyway, the original's chi is found by
-//! bisection on T, with no look at ours.
+//! by T, which no chi is below. No T keeps four counts of 0 (note 4): their chi is compared by M
+//! alone, at the largest T and at the least. The original keeps its chi to itself but merges exactly
+//! where chi is below T. So our chi is tried on it: kept at T = chi and merged at the next f64 above,
+//! it can have no other. Where that isn't so, and for a part of the inputs anyway, the original's chi
+//! is found by bisection on T, with no look at ours.
 //!
 //! What no T tells apart can't be seen in the original: NaN and infinity, both of which are kept at
 //! every T, and the two zeros. NaN and infinity are both compared as `None`. A zero of the original is
@@ -13,7 +14,7 @@
 use mom::{CountMerge, DensityMerge, Refusal};
 use oracle::run;
 
-use crate::{compare::Kind, floats::Float, quads::Quad, random::Random};
+use crate::{compare::Kind, floats::Float, lists::Value, quads::Quad, random::Random};
 
 pub struct CountChi;
 pub struct DensityChi;
@@ -25,12 +26,13 @@ pub struct Input<V> {
     bisected: bool,
 }
 
-/// The chi of the four kept by M, and that of the four kept by T.
+/// The chi of the four kept by M, and that of the four kept by T, where a T keeps them.
 type Answer = [Result<Option<Float>, Refusal>; 2];
 
 /// M and T.
 const KEPT_BY_M: (u8, f64) = (29, f64::INFINITY);
 const KEPT_BY_T: (u8, f64) = (0, f64::NEG_INFINITY);
+const KEPT_BY_BOTH: (u8, f64) = (29, f64::NEG_INFINITY);
 
 fn comparable(chi: f64) -> Option<Float> {
     (chi < f64::INFINITY).then_some(Float(chi))
@@ -74,7 +76,11 @@ impl Kind for CountChi {
     }
 
     fn ours(&Input { quad, .. }: &Input<u32>) -> Answer {
-        [KEPT_BY_M, KEPT_BY_T].map(|by| count_chi(quad, by).map(comparable))
+        let at_the_least_t = match u32::are_blank(quad.values) {
+            true => KEPT_BY_BOTH,
+            false => KEPT_BY_T,
+        };
+        [KEPT_BY_M, at_the_least_t].map(|by| count_chi(quad, by).map(comparable))
     }
 
     fn original(&Input { quad, bisected }: &Input<u32>) -> Answer {

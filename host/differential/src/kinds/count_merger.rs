@@ -1,5 +1,5 @@
-//! The count merger: whether the four are kept, and the merged count. The chi of those kept is for
-//! `count_chi`.
+//! The count merger: whether the four are kept, and the merged count, beside the original's merger
+//! behind the test of blank quads. The chi of those kept is for `count_chi`.
 
 use mom::{CountMerge, Refusal};
 use oracle::run;

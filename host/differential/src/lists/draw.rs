@@ -4,6 +4,7 @@ use super::Value;
 use crate::{
     cells::{n_hash, Cell, DEPTH_MAX},
     floats::Float,
+    quads::NOT_ABOVE_0,
     random::{any_of, Random},
     widths::Width,
 };
@@ -25,9 +26,9 @@ pub struct Input<V, Z = u64> {
     pub(super) calls: Vec<Call<V, Z>>,
     pub depth: u8,
     /// M
-    pub(super) depth_threshold: u8,
+    pub depth_threshold: u8,
     /// T
-    pub(super) chi2_threshold: Float,
+    pub chi2_threshold: Float,
     /// How many places the buffers have.
     pub(super) places: usize,
     /// What stands in every place before the first call.
@@ -102,7 +103,14 @@ impl<V: Value> List<V> {
             (1, hashes)
         });
         let cells = depth_1.chain([(2, (0..16).collect())]);
-        let settings = [(0, 0.0), (0, 3.5), (1, 3.5), (2, 3.5)];
+        let settings = [
+            (0, 0.0),
+            (0, 3.5),
+            (1, 3.5),
+            (2, 3.5),
+            (1, 0.0),
+            (0, f64::NEG_INFINITY),
+        ];
         cells.flat_map(move |(depth, hashes)| {
             V::small().iter().flat_map(move |&value| {
                 let hashes = hashes.clone();
@@ -123,14 +131,23 @@ impl<V: Value> List<V> {
         let longest = any_of(random, &[8, 32, 100, 300]);
         let len = random.below(longest);
         let hashes = hashes(random, depth, len);
-        let values = V::random(random, depth, hashes.len());
-        let depth_threshold = match random.below(4) {
+        let mut values = V::random(random, depth, hashes.len());
+        let is_blank = random.below(8) == 0;
+        if is_blank {
+            blank(random, &mut values);
+        }
+        let t = match is_blank && random.coin() {
+            true => any_of(random, &NOT_ABOVE_0),
+            false => threshold(random, depth, &values),
+        };
+        let depth_threshold = match random.below(5) {
             0 => random.below(DEPTH_MAX as u64 + 1) as u8,
             1 => random.below(depth as u64 + 1) as u8,
+            2 => depth.saturating_sub(random.below(4) as u8),
             _ => 0,
         };
         List {
-            chi2_threshold: Float(threshold(random, depth, &values)),
+            chi2_threshold: Float(t),
             hashes,
             values,
             depth,
@@ -214,6 +231,16 @@ fn threshold<V: Value>(random: &mut Random, depth: u8, values: &[V]) -> f64 {
             }
         }
         _ => V::LEAST_CHI2 + random.below(20_000) as f64 / 1000.0,
+    }
+}
+
+/// Leaves nothing but 0 of all values but one in so many, or of all.
+pub fn blank<V: Value>(random: &mut Random, values: &mut [V]) {
+    let one_in = any_of(random, &[4, 16, 64, u64::MAX]);
+    for value in values {
+        if random.below(one_in) > 0 {
+            *value = V::ZERO;
+        }
     }
 }
 

@@ -12,7 +12,7 @@ use mom::Refusal;
 
 use crate::{compare::Kind, random::Random, widths::Width};
 
-pub use draw::{stretch, Input, List};
+pub use draw::{blank, stretch, Input, List};
 pub use replay::replay;
 
 /// What a map holds for each entry: counts (u32) or densities ([`Float`](crate::floats::Float)).
@@ -35,6 +35,9 @@ pub trait Value: Copy + Debug + Ord + Send + 'static {
 
     /// The scope's chi. No answer is held to it; it says where to put T.
     fn chi2(values: [Self; 4], parent_depth: u8) -> f64;
+
+    /// Whether four are merged at any T, from M on: counts of 0, by note 4.
+    fn are_blank(values: [Self; 4]) -> bool;
 
     /// Values for which a call is refused, or may be.
     fn faulty() -> &'static [Self];

@@ -4,23 +4,22 @@ use super::{Combine, Given, Input};
 use crate::{
     cells::{n_hash, Cell, DEPTH_MAX},
     floats::{near, Float},
-    lists::Value,
+    lists::{blank, Value},
     maps::Map,
+    quads::NOT_ABOVE_0,
     random::{any_of, Random},
     widths::Width,
 };
 
 impl<V: Combine> Input<V> {
-    /// All pairs of maps in the first base cell down to depth 1; and an entry of any depth in one of
-    /// any other, at both ends and in between.
+    /// All pairs of maps in the first base cell down to depth 1, with few values, and with nothing but
+    /// 0; and an entry of any depth in one of any other, at both ends and in between.
     pub(super) fn small() -> impl Iterator<Item = Self> {
-        let maps = in_a_base_cell();
-        let pairs = (0..maps.len() * maps.len()).flat_map(move |pair| {
-            let (left, right) = (&maps[pair / maps.len()], &maps[pair % maps.len()]);
-            let inputs = [(0, 0.0), (0, 3.5), (0, f64::INFINITY), (1, f64::INFINITY)];
-            inputs.map(|(m, t)| Self::new(left.clone(), right.clone(), m, t).with_places())
-        });
-        pairs.chain(nested())
+        let settings = [(0, 0.0), (0, 3.5), (0, f64::INFINITY), (1, f64::INFINITY)];
+        let few = in_a_base_cell(V::few(), settings);
+        let settings = [(0, 0.0), (1, 0.0), (0, -1.0), (0, f64::NEG_INFINITY)];
+        let blank = in_a_base_cell(&[V::ZERO], settings);
+        few.chain(blank).chain(nested())
     }
 
     /// With no place.
@@ -43,9 +42,38 @@ impl<V: Combine> Input<V> {
     }
 
     pub fn random(random: &mut Random) -> Self {
+        match random.below(8) {
+            0 => Self::blank(random),
+            _ => Self::any(random),
+        }
+    }
+
+    pub fn any(random: &mut Random) -> Self {
         let cells = cells(random);
         let even = random.coin();
-        let [left, right] = cells.map(|cells| map(random, &cells, even));
+        let maps = cells.map(|cells| map(random, &cells, even));
+        Self::about(random, maps, threshold)
+    }
+
+    /// Of maps with little but 0, mostly where T is not above 0.
+    pub fn blank(random: &mut Random) -> Self {
+        let maps = cells(random).map(|cells| {
+            let mut map = map(random, &cells, false);
+            blank(random, &mut map.values);
+            map
+        });
+        Self::about(random, maps, |random, kept| match random.coin() {
+            true => any_of(random, &NOT_ABOVE_0),
+            false => threshold(random, kept),
+        })
+    }
+
+    /// With T by the overlay cells that the rule keeps.
+    fn about(
+        random: &mut Random,
+        [left, right]: [Given<V>; 2],
+        threshold: impl FnOnce(&mut Random, &[(Cell, V)]) -> f64,
+    ) -> Self {
         let mut input = Self::new(left, right, 0, 0.0);
         let values = [&input.left.values[..], &input.right.values].concat();
         input.factor = Float(V::factor(random, &values));
@@ -53,7 +81,7 @@ impl<V: Combine> Input<V> {
             return input;
         }
         let kept = input.kept();
-        input.chi2_threshold = Float(threshold::<V>(random, &kept));
+        input.chi2_threshold = Float(threshold(random, &kept));
         input.depth_threshold = match random.below(4) {
             0 => random.below(DEPTH_MAX as u64 + 1) as u8,
             1 => kept
@@ -137,10 +165,20 @@ impl<V: Value, Z: Width> Given<V, Z> {
     }
 }
 
-/// The maps of the first base cell down to depth 1, with few values.
-fn in_a_base_cell<V: Combine>() -> Vec<Given<V>> {
+/// All pairs of maps of the first base cell down to depth 1 with these values, at each M and T.
+fn in_a_base_cell<V: Combine>(
+    few: &[V],
+    settings: [(u8, f64); 4],
+) -> impl Iterator<Item = Input<V>> {
+    let maps = maps_of_a_base_cell(few);
+    (0..maps.len() * maps.len()).flat_map(move |pair| {
+        let (left, right) = (&maps[pair / maps.len()], &maps[pair % maps.len()]);
+        settings.map(|(m, t)| Input::new(left.clone(), right.clone(), m, t).with_places())
+    })
+}
+
+fn maps_of_a_base_cell<V: Combine>(few: &[V]) -> Vec<Given<V>> {
     let base = Cell { depth: 0, hash: 0 };
-    let few = V::few();
     let ways = few.len() + 1;
     let whole = few.iter().map(|&value| Given::new(0, &[base], vec![value]));
     let parts = (0..ways.pow(4)).map(|way| {
@@ -161,7 +199,8 @@ fn nested<V: Combine>() -> impl Iterator<Item = Input<V>> {
         ways.into_iter().flat_map(move |(hash, path)| {
             let over = Cell { depth: 0, hash }.descendant(top, path);
             let under = over.descendant(bottom, path);
-            V::few().iter().flat_map(move |&value| {
+            let values = V::few().iter().copied().chain([V::ZERO]);
+            values.flat_map(move |value| {
                 let map = |cell: Cell| Given::new(cell.depth, &[cell], vec![value]);
                 let inputs = [f64::NEG_INFINITY, f64::INFINITY];
                 inputs.map(|t| Input::new(map(over), map(under), 0, t).with_places())

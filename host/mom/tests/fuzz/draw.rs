@@ -108,6 +108,22 @@ impl Draw {
         }
     }
 
+    /// Four for a merger, now and then of blank sky with hardly a source.
+    pub fn four_counts(&mut self) -> [u32; 4] {
+        if self.one_in(4) {
+            return [(); 4].map(|_| self.one_in(8) as u32);
+        }
+        [(); 4].map(|_| self.count())
+    }
+
+    /// T: now and then one that the chi of blank sky, 0, is not below.
+    pub fn chi2_threshold(&mut self) -> f64 {
+        if self.one_in(3) {
+            return [0.0, -0.0, -1.0, -f64::MAX, f64::NEG_INFINITY][self.below(5)];
+        }
+        self.float()
+    }
+
     pub fn float(&mut self) -> f64 {
         match self.below(8) {
             0 => f64::from_bits(self.bits()),
@@ -157,6 +173,20 @@ impl Draw {
             return (0..number).map(|_| self.count()).collect();
         }
         (0..number).map(|_| self.below(6) as u32).collect()
+    }
+
+    /// Blank sky with a source here and there, as counts of two lists.
+    fn blank_counts(&mut self, numbers: [usize; 2]) -> [Vec<u32>; 2] {
+        let few = [8, 64, 512][self.below(3)];
+        numbers.map(|number| (0..number).map(|_| self.one_in(few) as u32).collect())
+    }
+
+    /// The held counts and those of the batch, now and then of blank sky.
+    pub fn add_counts<Z>(&mut self, call: &AddCall<Z>) -> [Vec<u32>; 2] {
+        if self.one_in(3) {
+            return self.blank_counts([call.values, call.batch]);
+        }
+        [call.values, call.batch].map(|number| self.counts_of(number))
     }
 
     pub fn densities_of(&mut self, number: usize) -> Vec<f64> {
@@ -238,13 +268,29 @@ impl Draw {
         (cells.map(|hash| zuniq_of(0, hash)).collect(), end)
     }
 
+    /// The first cells of some siblings or their children, as a batch cut off within them leaves them, and
+    /// the hash behind them.
+    fn cut_siblings<Z: Zuniq>(&mut self, depth: u8) -> (Vec<Z>, u64) {
+        let siblings = [4, 16][self.below(2)];
+        let first = self.below(12 << (2 * depth)) as u64 / siblings * siblings;
+        let end = first + self.below(siblings as usize) as u64;
+        let cells = (first..end).map(|hash| zuniq_of(depth, hash));
+        (cells.collect(), end)
+    }
+
+    /// What is held before a call, and the hash from which on its cells stand.
+    fn held<Z: Zuniq>(&mut self, depth: u8) -> (Vec<Z>, u64) {
+        match depth {
+            0 if !self.one_in(4) => self.base_cells(),
+            d if d > 0 && d <= Z::MAX_DEPTH && self.one_in(3) => self.cut_siblings(depth),
+            _ => self.held_map(depth),
+        }
+    }
+
     /// A map of cells of one depth and above it, and cells behind it; some of it wrong.
     pub fn add_call<Z: Zuniq>(&mut self) -> AddCall<Z> {
         let depth = self.depth::<Z>();
-        let (mut zuniqs, from) = match depth {
-            0 if !self.one_in(4) => self.base_cells(),
-            _ => self.held_map(depth),
-        };
+        let (mut zuniqs, from) = self.held(depth);
         let held = match self.below(8) {
             0 => self.below(14),
             _ => zuniqs.len(),
@@ -268,7 +314,7 @@ impl Draw {
         AddCall {
             depth,
             m: self.depth_threshold(),
-            t: self.float(),
+            t: self.chi2_threshold(),
             held: if self.one_in(8) {
                 held
             } else {
@@ -345,14 +391,18 @@ impl Draw {
             t: if self.one_in(3) {
                 self.few_bits::<u64>() as f64
             } else {
-                self.float()
+                self.chi2_threshold()
             },
             k: if self.one_in(2) { 1.0 } else { self.float() },
         }
     }
 
-    /// Counts of two maps whose total mostly is a u32, and now and then the last one or just none.
+    /// Counts of two maps whose total mostly is a u32, and now and then the last one or just none; or
+    /// blank sky.
     pub fn pool_counts(&mut self, [left, right]: [usize; 2]) -> [Vec<u32>; 2] {
+        if self.one_in(4) {
+            return self.blank_counts([left, right]);
+        }
         let mut counts: Vec<u32> = if self.one_in(16) {
             self.counts_of(left + right)
         } else {

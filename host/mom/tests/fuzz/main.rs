@@ -87,9 +87,12 @@ fn cells() {
 fn mergers() {
     // A NaN chi is one however its bits are.
     let bits = |x: f64| if x.is_nan() { None } else { Some(x.to_bits()) };
+    // Blank sky at a T that its chi is not below, from M on and below M.
+    let (mut merged, mut kept) = (0, 0);
     rounds("mergers", |draw| {
-        let (p, m, t) = (draw.depth::<u64>(), draw.depth::<u64>(), draw.float());
-        let counts = [(); 4].map(|_| draw.count());
+        let (p, m) = (draw.depth::<u64>(), draw.depth::<u64>());
+        let t = draw.chi2_threshold();
+        let counts = draw.four_counts();
         let answer = mom::chi2_count_merger(p, m, t, counts).map(|merge| match merge {
             CountMerge::Merged(count) => (Some(count), None),
             CountMerge::Kept(chi) => (None, bits(chi)),
@@ -99,6 +102,10 @@ fn mergers() {
             Err(chi) => (None, bits(chi)),
         });
         assert_eq!(answer, expected, "{p} {m} {t} {counts:?}");
+        if counts == [0; 4] && t <= 0.0 {
+            merged += (answer == Ok((Some(0), None))) as usize;
+            kept += (answer == Ok((None, Some(0)))) as usize;
+        }
 
         let densities = [(); 4].map(|_| draw.density());
         let answer = mom::chi2_density_merger(p, m, t, densities).map(|merge| match merge {
@@ -111,6 +118,8 @@ fn mergers() {
         });
         assert_eq!(answer, expected, "{p} {m} {t} {densities:?}");
     });
+    assert_some("mergers", "blank sky merged", merged);
+    assert_some("mergers", "blank sky kept", kept);
 }
 
 type Answer<T> = Result<T, Refusal>;
@@ -234,20 +243,51 @@ impl BaseCells {
     }
 }
 
+/// Accepted calls that merge blank sky though its chi is not below T: also some that was held.
+#[derive(Default)]
+struct BlankSky {
+    merged: usize,
+    held: usize,
+}
+
+impl BlankSky {
+    /// By the call, and the entries that it leaves.
+    fn add<Z: Zuniq>(&mut self, call: &AddCall<Z>, zuniqs: &[Z], counts: &[u32]) {
+        let held = &call.zuniqs[..call.held];
+        let is_merged = |(zuniq, &count): (&Z, &u32)| {
+            let is_above = plain::cell_of(*zuniq).is_some_and(|(depth, _)| depth < call.depth);
+            count == 0 && is_above && !held.contains(zuniq)
+        };
+        if call.t > 0.0 || !zuniqs.iter().zip(counts).any(is_merged) {
+            return;
+        }
+        self.merged += 1;
+        self.held += !held.iter().all(|zuniq| zuniqs.contains(zuniq)) as usize;
+    }
+
+    fn assert_some(self, name: &str) {
+        assert_some(name, "blank sky merged", self.merged);
+        assert_some(name, "blank sky merged with some that was held", self.held);
+    }
+}
+
 #[test]
 fn adding() {
     let (mut counts, mut densities) = (Met::default(), Met::default());
-    let mut base_cells = BaseCells::default();
+    let (mut base_cells, mut blank_sky) = (BaseCells::default(), BlankSky::default());
     rounds("adding", |draw| {
         let call = draw.add_call();
-        let (mut z, mut n) = (call.zuniqs.clone(), draw.counts_of(call.values));
-        let batch = draw.counts_of(call.batch);
+        let [mut n, batch] = draw.add_counts(&call);
+        let mut z = call.zuniqs.clone();
         let expected = plain::add_counts(&call, &z, &n, &batch);
         let (d, m, t, held) = (call.depth, call.m, call.t, call.held);
         let answer = mom::add_counts(d, m, t, held, &mut z, &mut n, &call.hashes, &batch)
             .map(|added| (added.entries, added.total));
         counts.add(&answer);
         base_cells.add(&call, answer.is_ok());
+        if let Ok((entries, _)) = answer {
+            blank_sky.add(&call, &z[..entries], &n[..entries]);
+        }
         assert_eq!((answer, z, n), expected, "{call:?} {batch:?}");
 
         let (mut z, mut x) = (call.zuniqs.clone(), draw.densities_of(call.values));
@@ -260,6 +300,7 @@ fn adding() {
         assert_eq!(bits(&x), bits(&expected.2), "{call:?} {batch:?}");
     });
     base_cells.assert_some("adding");
+    blank_sky.assert_some("adding");
     counts.assert_all(&[0, 1, 2, 3, 4, 5, 7, 8, 10, 11]);
     densities.assert_all(&[0, 1, 2, 3, 4, 5, 6, 7, 8, 9, 11]);
 }
@@ -272,9 +313,22 @@ fn map<'a, V>(side: &'a Side<u64>, values: &'a [V]) -> Map<'a, V> {
     }
 }
 
+/// Whether an entry of count 0 is no cell of the overlay, so that it was merged.
+fn merges_blanks(overlay: &[plain::Part], zuniqs: &[u64], counts: &[u32]) -> bool {
+    let is_part = |zuniq| {
+        overlay
+            .iter()
+            .any(|part| plain::cell_of(zuniq) == Some(part.0))
+    };
+    let mut entries = zuniqs.iter().zip(counts);
+    entries.any(|(&zuniq, &count)| count == 0 && !is_part(zuniq))
+}
+
 #[test]
 fn combining() {
     let (mut pools, mut products) = (Met::default(), Met::default());
+    // Pools in which blank sky is merged though its chi is not below T.
+    let mut blank = 0;
     rounds("combining", |draw| {
         let call = draw.combine_call();
         let (m, t, k) = (call.m, call.t, call.k);
@@ -288,6 +342,9 @@ fn combining() {
         let answer = mom::pool(map(left, &l), map(right, &r), m, t, &mut z, &mut n)
             .map(|added| (added.entries, added.total));
         pools.add(&answer);
+        if let (Ok((entries, _)), true) = (answer, t <= 0.0) {
+            blank += merges_blanks(&overlay, &z[..entries], &n) as usize;
+        }
         assert_eq!((answer, z, n), expected, "{call:?} {l:?} {r:?}");
 
         let l = draw.densities_of(left.values);
@@ -302,6 +359,7 @@ fn combining() {
         assert_eq!((answer, z), (expected.0, expected.1), "{}", shown());
         assert_eq!(bits(&x), bits(&expected.2), "{}", shown());
     });
+    assert_some("combining", "blank sky merged", blank);
     pools.assert_all(&[0, 1, 2, 3, 4, 5, 10, 11]);
     products.assert_all(&[0, 1, 2, 3, 4, 5, 6, 10, 11]);
 }

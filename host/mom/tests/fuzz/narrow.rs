@@ -2,7 +2,7 @@
 
 use mom::narrow::{self, rows};
 
-use super::{assert_map, assert_map_of_rows, assert_some, plain, rounds, BaseCells, Met};
+use super::{assert_map, assert_map_of_rows, assert_some, plain, rounds, BaseCells, BlankSky, Met};
 
 #[test]
 fn cells() {
@@ -77,12 +77,13 @@ fn reading_and_writing_rows() {
 #[test]
 fn adding() {
     let (mut met, mut base_cells) = (Met::default(), BaseCells::default());
+    let mut blank_sky = BlankSky::default();
     // Accepted calls at the largest depth, and calls that merge though M is not 0.
     let (mut deepest, mut merging) = (0, 0);
     rounds("narrow adding", |draw| {
         let call = draw.add_call::<u32>();
-        let (mut z, mut n) = (call.zuniqs.clone(), draw.counts_of(call.values));
-        let batch = draw.counts_of(call.batch);
+        let [mut n, batch] = draw.add_counts(&call);
+        let mut z = call.zuniqs.clone();
         let expected = plain::add_counts(&call, &z, &n, &batch);
         let (d, m, t, held) = (call.depth, call.m, call.t, call.held);
         let answer = narrow::add_counts(d, m, t, held, &mut z, &mut n, &call.hashes, &batch)
@@ -92,11 +93,13 @@ fn adding() {
         if let Ok((entries, _)) = answer {
             deepest += (d == narrow::MAX_DEPTH) as usize;
             merging += (m > 0 && entries < held + batch.len()) as usize;
+            blank_sky.add(&call, &z[..entries], &n[..entries]);
         }
         assert_eq!((answer, z, n), expected, "{call:?} {batch:?}");
     });
     assert_some("narrow adding", "accepted at depth 13", deepest);
     assert_some("narrow adding", "merged at an M over 0", merging);
     base_cells.assert_some("narrow adding");
+    blank_sky.assert_some("narrow adding");
     met.assert_all(&[0, 1, 2, 3, 4, 5, 7, 8, 10, 11]);
 }

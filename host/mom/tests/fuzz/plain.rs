@@ -1,5 +1,5 @@
-//! The scope's definitions, each as it is read there, without a thought of speed. What is said of a
-//! zuniq holds for both widths, with the width's largest depth.
+//! The definitions of the scope and of its change requests, each as it is read there, without a thought
+//! of speed. What is said of a zuniq holds for both widths, with the width's largest depth.
 
 use std::{fmt::Debug, ops::Range};
 
@@ -117,8 +117,12 @@ fn excess(sum: f64, [a, b, c, d]: [f64; 4]) -> f64 {
     sum - 4.0 * (4.0 / w)
 }
 
-/// The count, or the chi of what is kept.
+/// The count, or the chi of what is kept. "Four siblings of count 0 now merge at any T, where the parent
+/// depth is at least M." (Request 4.)
 fn merge_counts(p: u8, m: u8, t: f64, counts: [u32; 4]) -> Result<u32, f64> {
+    if p >= m && counts == [0; 4] {
+        return Ok(0);
+    }
     let [a, b, c, d] = counts.map(f64::from);
     let chi = excess(((a + b) + c) + d, [a, b, c, d]);
     if p >= m && chi < t {

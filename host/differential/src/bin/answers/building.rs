@@ -14,11 +14,34 @@ use crate::{Line, Number};
 pub fn print_counts<Z: Width + Number>(random: &mut Random, drawn: usize) {
     for _ in 0..drawn {
         let list = List::<u32, Z>::random(random);
-        list.line(|line, values| {
-            let total: u32 = values.iter().sum();
-            line.with(total)
-        })
-        .print();
+        list.line(with_total).print();
+    }
+}
+
+fn with_total(line: Line, counts: &[u32]) -> Line {
+    let total: u32 = counts.iter().sum();
+    line.with(total)
+}
+
+/// Sixteen cells of depth 2, blank but for the one given, where there is one: at M and T, with so many
+/// of them held.
+const BLANK: [(u8, f64, Option<u64>, usize); 3] = [
+    (0, -1.0, None, 5),
+    (1, f64::NEG_INFINITY, None, 11),
+    (0, 0.0, Some(5), 6),
+];
+
+pub fn print_blank<Z: Width + Number>() {
+    for (m, t, source, cut) in BLANK {
+        let count = |hash| u32::from(Some(hash) == source);
+        let list = List::<u32, Z> {
+            depth: 2,
+            m,
+            t: Float(t),
+            cells: (0..16).map(|hash| (Z::of(hash), count(hash))).collect(),
+            cut,
+        };
+        list.line(with_total).print();
     }
 }
 

@@ -13,11 +13,28 @@ use crate::{building::buffers, Line, Number};
 
 const DRAWN: usize = 32;
 
+fn with_total(line: Line, entries: &[(u64, u32)]) -> Line {
+    let total: u32 = entries.iter().map(|&(_, count)| count).sum();
+    line.with(total)
+}
+
+/// A blank base cell and a blank cell in it, as far as M.
+pub fn print_blank() {
+    for (m, cell, t) in [
+        (0, (1, 1), 0.0),
+        (1, (1, 1), 0.0),
+        (0, (3, 37), -1.0),
+        (2, (3, 37), f64::NEG_INFINITY),
+    ] {
+        let input = Input {
+            depth_threshold: m,
+            ..case(cell, [0; 2], t)
+        };
+        print_pair(&input, with_total);
+    }
+}
+
 pub fn print(random: &mut Random) {
-    let with_total = |line: Line, entries: &[(u64, u32)]| {
-        let total: u32 = entries.iter().map(|&(_, count)| count).sum();
-        line.with(total)
-    };
     for t in [2.0, 3.5] {
         print_pair(&case((1, 1), [10, 3], t), with_total);
     }
@@ -53,7 +70,7 @@ fn draw<V: Combine + Number>(
 ) {
     let mut printed = 0;
     while printed < DRAWN {
-        let input = Input::<V>::random(random);
+        let input = Input::<V>::any(random);
         if input.left.zuniqs.len() + input.right.zuniqs.len() > 24 || input.refusal().is_some() {
             continue;
         }

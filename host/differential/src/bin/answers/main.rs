@@ -4,7 +4,8 @@
 //! its 64-bit pattern. `crates/replay/src/call.rt` sets out the numbers of each call.
 //!
 //! The choice of arguments is fixed: small ones, and some that a fixed seed draws. Every answer is the
-//! original's, on arguments that no call of ours refuses; nothing here calls our library.
+//! original's, with its count merger behind the test of blank quads, on arguments that no call of ours
+//! refuses; nothing here calls our library.
 
 mod building;
 mod cells;
@@ -27,6 +28,7 @@ fn main() {
     combining::print(&mut random(5));
     rows::print(&mut random(7), 16);
     print_narrow(&mut random(8));
+    print_blank();
 }
 
 /// Narrow maps, and moving between the widths.
@@ -37,6 +39,13 @@ fn print_narrow(random: &mut Random) {
     rows::print_narrow(random, 10);
     moving::print::<u64>(random, 10);
     moving::print::<u32>(random, 10);
+}
+
+/// Blank sky at a T that its chi is not below; its mergers stand with the others.
+fn print_blank() {
+    building::print_blank::<u64>();
+    building::print_blank::<u32>();
+    combining::print_blank();
 }
 
 /// The numbers that the arguments of a section are drawn from; 8 is for narrow maps.

@@ -11,8 +11,8 @@ use oracle::run;
 
 use crate::{Line, Number};
 
-/// The scope's cases, at T and M.
-const CASES: [([u32; 4], f64, u8); 8] = [
+/// The scope's cases and those of blank quads, at T and M.
+const CASES: [([u32; 4], f64, u8); 14] = [
     ([1, 2, 4, 4], 3.0, 0),
     ([1, 2, 4, 4], 3.5, 0),
     ([1, 2, 4, 4], 3.5, 1),
@@ -21,6 +21,12 @@ const CASES: [([u32; 4], f64, u8); 8] = [
     ([4, 4, 4, 4], 0.0, 0),
     ([4, 4, 4, 4], 5e-324, 0),
     ([0, 0, 0, 0], 3.5, 0),
+    ([0, 0, 0, 0], 0.0, 0),
+    ([0, 0, 0, 0], -1.0, 0),
+    ([0, 0, 0, 0], f64::NEG_INFINITY, 0),
+    ([0, 0, 0, 0], 0.0, 1),
+    ([0, 0, 0, 1], 0.0, 0),
+    ([1, 0, 0, 0], -1.0, 0),
 ];
 
 const DRAWN: usize = 40;
@@ -34,7 +40,7 @@ pub fn print(random: &mut Random) {
         depth_threshold: m,
         chi2_threshold: Float(t),
     });
-    let drawn: Vec<Call<u32>> = (0..DRAWN).map(|_| Call::<u32>::random(random)).collect();
+    let drawn: Vec<Call<u32>> = (0..DRAWN).map(|_| Call::<u32>::any(random)).collect();
     for call in cases.into_iter().chain(drawn) {
         let Quad {
             values,
