@@ -55,44 +55,13 @@ pub fn n_hash(depth: u8) -> CellNumber
     CellNumber::Cells(n_hash_unchecked(depth))
 }
 
-// The table of 12 * 4^depth. It is a `match` and no array because the compiler keeps the numbers of a
-// `match` in read-only memory, whereas a constant array is built on the stack at each use.
+// 12 base cells, and at each further depth four cells for one: a shift by two bits. Up to depth 29
+// no bit is lost.
 pub fn n_hash_unchecked(depth: u8) -> u64
     requires { ⌜ depth ≤ 29 ⌝ }
     ensures { λ r. ⌜ r ≡ nHash depth ⌝ }
 {
-    match depth {
-        0 => 12,
-        1 => 48,
-        2 => 192,
-        3 => 768,
-        4 => 3072,
-        5 => 12288,
-        6 => 49152,
-        7 => 196608,
-        8 => 786432,
-        9 => 3145728,
-        10 => 12582912,
-        11 => 50331648,
-        12 => 201326592,
-        13 => 805306368,
-        14 => 3221225472,
-        15 => 12884901888,
-        16 => 51539607552,
-        17 => 206158430208,
-        18 => 824633720832,
-        19 => 3298534883328,
-        20 => 13194139533312,
-        21 => 52776558133248,
-        22 => 211106232532992,
-        23 => 844424930131968,
-        24 => 3377699720527872,
-        25 => 13510798882111488,
-        26 => 54043195528445952,
-        27 => 216172782113783808,
-        28 => 864691128455135232,
-        _ => 3458764513820540928,
-    }
+    (Zuniq64::N_D0_CELLS as u64) << (Zuniq64::DIM * depth)
 }
 
 // Zuniqs in a u64; the constants are those of the source's trait `ZUniqHashT`.
