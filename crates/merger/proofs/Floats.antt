@@ -4,14 +4,14 @@ use mathlib.Core.Path.{_≡_, refl, sym, subst}
 use mathlib.Core.Bool.{Bool, true, false, not, _&&_, _||_, Bool·beq, cond, true≢false}
 use mathlib.Core.Logic.{_⊎_, inl, inr}
 use Prim.Native.Nat.{ℕ, zero, suc, _+_, _-_, _*_, _<_, _^_, zero-le, suc-le-suc}
-use native.Mathlib.Nat.{add-zero, zero-mul, zero-lt-suc}
+use native.Mathlib.Nat.{add-zero, zero-mul, mul-zero, mul-one, zero-lt-suc}
 use native.Mathlib.Omega.{arith}
 use lib.Dec.{T, ltb, eqb, eqb·zero-suc}
 use lib.IntN.{ℤ, pos}
 use borrow.Author.Tests.{eq-eqb, le-ltb, lt-ltb}
 use lib.Ieee as Ieee
 use lib.Ieee.{Float, nan, inf, fin, Format, binary64, prec, emax, low, up, down, odd, units, round, sum, isNan}
-use lib.Ieee.Fits.{round-is}
+use lib.Ieee.Fits.{round-is, down-pos}
 use lib.Ieee.Scale.{round-same, finite}
 use Rattle.merger.specs.Floats.{_⊕_, _⊖_, _⊗_, _⊘_, 0·0, invalidDensity}
 
@@ -34,6 +34,18 @@ lt-self (inf false) = refl
 lt-self (fin true m e) = le-ltb (m * up e * down e) (m * up e * down e) (omega arith)
 lt-self (fin false m e) = le-ltb (m * up e * down e) (m * up e * down e) (omega arith)
 
+-- ---- zeros
+-- Zero is rounded to a zero.
+pub round-zero : (s : Bool) (den : ℕ) → 0 < den → round binary64 s 0 den ≡ fin s 0 (pos 0)
+unfolding round
+round-zero s den p = rw (round-same binary64 s 0 den 0 1 p (zero-lt-suc 0) (sym (zero-mul den)))
+
+-- What is finite is a zero when times 0.
+times-zero : (s : Bool) (m : ℕ) (e : ℤ) → fin s m e ⊗ 0·0 ≡ fin s 0 (pos 0)
+unfolding Ieee.mul
+times-zero true m e = simp (mul-zero, mul-one) (round-zero true (down e) (down-pos e))
+times-zero false m e = simp (mul-zero, mul-one) (round-zero false (down e) (down-pos e))
+
 -- A value with the sign + is not below 0, and one with the sign − is at least 0 exactly if it is −0.
 plus-at-least-0 : (x : ℕ) → ltb x 0 ≡ cond (ltb 0 x || (eqb 0 x && true)) false true
 plus-at-least-0 zero = refl
@@ -43,14 +55,14 @@ minus-at-least-0 : (x : ℕ) → ltb 0 (x + 0) ≡ cond (eqb 0 x && true) false 
 minus-at-least-0 zero = refl
 minus-at-least-0 (suc x) = simp (add-zero, eqb·zero-suc) (lt-ltb 0 (suc x) (suc-le-suc zero-le))
 
--- A density is invalid exactly if it is not at least 0, or at least infinity.
-pub invalid-density-is : (x : Float) → invalidDensity x ≡ cond (Ieee.le 0·0 x) (Ieee.le (inf false) x) true
-unfolding invalidDensity Ieee.le Ieee.lt isNan
+-- A density is invalid exactly if it is not at least 0, or is no zero when times 0.
+pub invalid-density-is : (x : Float) → invalidDensity x ≡ cond (Ieee.le 0·0 x) (Ieee.ne (x ⊗ 0·0) 0·0) true
+unfolding invalidDensity Ieee.le Ieee.lt Ieee.mul Ieee.ne isNan
 invalid-density-is nan = refl
 invalid-density-is (inf true) = refl
 invalid-density-is (inf false) = refl
-invalid-density-is (fin true m e) = simp zero-mul (minus-at-least-0 (m * up e * 1))
-invalid-density-is (fin false m e) = simp zero-mul (plus-at-least-0 (m * up e * 1))
+invalid-density-is (fin true m e) = rw (times-zero true m e) (simp zero-mul (minus-at-least-0 (m * up e * 1)))
+invalid-density-is (fin false m e) = rw (times-zero false m e) (simp zero-mul (plus-at-least-0 (m * up e * 1)))
 
 -- ---- signs
 -- x is no NaN and has the sign s
@@ -81,11 +93,6 @@ units-sign f s q k = either-sign s (ltb (q * 2 ^ k) (2 ^ (low f + suc (emax f)))
 
 pub round-sign : (f : Format) (s : Bool) (num den : ℕ) → HasSign s (round f s num den)
 round-sign f s num den = subst (HasSign s) (sym (round-is f s num den)) (units-sign f s _ _)
-
--- Zero is rounded to a zero.
-pub round-zero : (s : Bool) (den : ℕ) → 0 < den → round binary64 s 0 den ≡ fin s 0 (pos 0)
-unfolding round
-round-zero s den p = rw (round-same binary64 s 0 den 0 1 p (zero-lt-suc 0) (sym (zero-mul den)))
 
 -- A sum of two values with the sign + has it.
 pub add-plus : (x y : Float) → HasSign false x → HasSign false y → HasSign false (x ⊕ y)

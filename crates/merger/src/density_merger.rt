@@ -150,12 +150,13 @@ fn max(m: f64, c: f64) -> f64
     if m > c { m } else { c }
 }
 
-// NaN, infinite or below 0. A NaN is not at least 0.
+// NaN, infinite or below 0. A NaN is not at least 0, and times 0 only what is finite is 0. Of a
+// comparison with infinity the compiler would make tests of the bits, which take longer.
 pub fn invalid_density(x: f64) -> bool
     ensures { λ r. ⌜ r ≡ invalidDensity x ⌝ }
 {
     if x >= 0.0 {
-        return x >= f64::from_bits(0x7ff0_0000_0000_0000);
+        return x * 0.0 != 0.0;
     }
     true
 }

@@ -1,15 +1,11 @@
 -- `invalid_density` meets its contract: its two comparisons say what the definition says, at every float. Assumes nothing.
 use mathlib.Core.Path.{_≡_}
 use mathlib.Core.Bool.{true, false}
-use lib.Ieee.{ofBits, nanBits, le}
+use lib.Ieee.{ofBits, le}
 use Rattle.merger.specs.Floats.{0·0}
 use Rattle.merger.proofs.Floats.{invalid-density-is}
 use Rattle.merger.proofs.density_merger.invalid_density.Statement.{statement}
 use Rattle.merger.proofs.density_merger.invalid_density.Tie as tie
-
-float-from-bits-result : tie.Need-float-from-bits-result
-unfolding nanBits
-float-from-bits-result c = tt
 
 returns : tie.Need-returns
 unfolding ofBits
@@ -24,4 +20,4 @@ returns-2 c =
     rw (invalid-density-is, not-at-least-0)
 
 pub invalid-density-spec : {M : Type 1} → statement M
-invalid-density-spec = tie.close (tie.spec float-from-bits-result returns returns-2)
+invalid-density-spec = tie.close (tie.spec returns returns-2)
