@@ -718,7 +718,10 @@ int main(void) {
 
     expect(answers(mom_n_hash(30, &n_hash), MOM_DEPTH_OUT_OF_RANGE, 0) && n_hash == 5,
            "n_hash(30)");
+    expect(answers(mom_n_hash(0, &n_hash), MOM_ACCEPTED, 0) && n_hash == 12, "n_hash(0)");
     expect(answers(mom_n_hash(1, &n_hash), MOM_ACCEPTED, 0) && n_hash == 48, "n_hash(1)");
+    expect(answers(mom_n_hash(29, &n_hash), MOM_ACCEPTED, 0) && n_hash == 3458764513820540928,
+           "n_hash(29)");
 
     expect(answers(mom_to_zuniq(1, 48, &zuniq), MOM_HASH_OUT_OF_RANGE, 0) && zuniq == 5,
            "to_zuniq(1, 48)");

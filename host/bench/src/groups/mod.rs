@@ -1,6 +1,7 @@
 //! The works that are timed. Each is first done once by both, and the answers are held together.
 
 pub mod adding;
+pub mod cells;
 pub mod columns;
 pub mod combining;
 pub mod growth;
@@ -24,7 +25,11 @@ pub struct Group {
     pub run: fn(Plan),
 }
 
-pub const GROUPS: [Group; 8] = [
+pub const GROUPS: [Group; 9] = [
+    Group {
+        name: "cells",
+        run: cells::run,
+    },
     Group {
         name: "adding",
         run: adding::run,

@@ -1,5 +1,6 @@
 //! The number of cells at each of the 30 depths. The original reads it from its table of layers;
-//! the rule that fills that table stands in lib.rs, which isn't at hand, so it is our stand-in's.
+//! the rule that fills that table stands in lib.rs, which isn't at hand, so it is our stand-in's: the
+//! same shift as ours. `host/mom/tests/limits.rs` has the numbers without a shift.
 
 use mom::Refusal;
 use oracle::run;
