@@ -1,9 +1,10 @@
 -- The scope's table "Refusals in checking order": "A refusal is its number and a place, counted from 0 and 0 unless said".
 use Prim.Native.Nat.{ℕ}
 use Rattle.refusal.specs.declared.Refusal.{Refusal}
-use Rattle.refusal.specs.declared.Refusal.the-variants.{DepthOutOfRange, DepthThresholdOutOfRange, Chi2ThresholdIsNan, InvalidFactor, LengthMismatch, InvalidMap, EntryTooDeep, InvalidMapDensity, HashOutOfRange, CellNotAbove, InvalidDensity, CountOverflow, ProductNotFinite, NoSpace, InvalidQuery}
+use Rattle.refusal.specs.declared.Refusal.the-variants.{DepthOutOfRange, DepthThresholdOutOfRange, Chi2ThresholdIsNan, InvalidFactor, LengthMismatch, InvalidMap, EntryTooDeep, InvalidMapDensity, InvalidRange, HashOutOfRange, CellNotAbove, InvalidDensity, CountOverflow, ProductNotFinite, NoSpace, InvalidQuery}
 
--- the row of the table; of note 2 of 02: "13, an entry deeper than 13 is narrowed, place its entry, tried after 5"
+-- the row of the table; of note 2 of 02: "13, an entry deeper than 13 is narrowed, place its entry, tried after 5"; of note 6: "14, a
+-- range is empty, ends past N(29), or doesn't start above the previous end, place its range, tried after 6"
 abbrev pub numberOf : Refusal → ℕ
 numberOf DepthOutOfRange = 1
 numberOf DepthThresholdOutOfRange = 2
@@ -13,6 +14,7 @@ numberOf LengthMismatch = 4
 numberOf (InvalidMap entry) = 5
 numberOf (EntryTooDeep entry) = 13
 numberOf (InvalidMapDensity entry) = 6
+numberOf (InvalidRange range) = 14
 numberOf (HashOutOfRange cell) = 7
 numberOf (CellNotAbove cell) = 8
 numberOf (InvalidDensity cell) = 9
@@ -31,6 +33,7 @@ placeOf LengthMismatch = 0
 placeOf (InvalidMap entry) = entry
 placeOf (EntryTooDeep entry) = entry
 placeOf (InvalidMapDensity entry) = entry
+placeOf (InvalidRange range) = range
 placeOf (HashOutOfRange cell) = cell
 placeOf (CellNotAbove cell) = cell
 placeOf (InvalidDensity cell) = cell

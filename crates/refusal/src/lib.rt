@@ -4,7 +4,8 @@ ghost use mathlib.Core.Path.{_≡_};
 ghost use Rattle.refusal.specs.Refusals.{numberOf, placeOf};
 
 // A case for each thing that can be wrong, in checking order. A case that has a place holds it:
-// the entry of a map, the cell of a batch, the child of a merger's four, the query of a test's two.
+// the entry of a map, the range of a coverage, the cell of a batch, the child of a merger's four, the
+// query of a test's two.
 pub enum Refusal {
     // The depth is over the largest, or a merger's parent depth is the largest.
     DepthOutOfRange,
@@ -23,6 +24,8 @@ pub enum Refusal {
     EntryTooDeep(usize),
     // A held or given density is NaN, infinite or below 0 at this entry.
     InvalidMapDensity(usize),
+    // This range of a coverage is empty, ends past the sky, or does not start above the end before.
+    InvalidRange(usize),
     // The hash of this cell is not one of its depth.
     HashOutOfRange(usize),
     // This cell is not above the one before, or starts before the last held entry ends.
@@ -53,6 +56,7 @@ impl Refusal {
             Refusal::InvalidMap(_) => 5,
             Refusal::EntryTooDeep(_) => 13,
             Refusal::InvalidMapDensity(_) => 6,
+            Refusal::InvalidRange(_) => 14,
             Refusal::HashOutOfRange(_) => 7,
             Refusal::CellNotAbove(_) => 8,
             Refusal::InvalidDensity(_) => 9,
@@ -76,6 +80,7 @@ impl Refusal {
             Refusal::InvalidMap(entry) => entry,
             Refusal::EntryTooDeep(entry) => entry,
             Refusal::InvalidMapDensity(entry) => entry,
+            Refusal::InvalidRange(range) => range,
             Refusal::HashOutOfRange(cell) => cell,
             Refusal::CellNotAbove(cell) => cell,
             Refusal::InvalidDensity(cell) => cell,

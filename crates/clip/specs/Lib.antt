@@ -1,0 +1,5 @@
+pub mod Clip
+pub mod Promises
+pub mod Call
+pub mod Passes
+pub mod Told

@@ -1,0 +1,4 @@
+pub mod Ranges
+pub mod Coverage
+pub mod Promises
+pub mod Told
