@@ -1,9 +1,9 @@
 -- A given coverage: its ranges in two buffers, and row 14, which none of them may break. Ranges pass exactly if they are parted; where
 -- they don't, the first that is faulty is told. Assumes nothing.
 use mathlib.Core.Path.{_≡_, refl, ap, _∙_}
-use mathlib.Core.Bool.{Bool, true, false, _||_}
+use mathlib.Core.Bool.{Bool, true, false, _||_, or-true}
 use mathlib.Core.List.{List, [], _∷_}
-use mathlib.Core.Logic.{_⊎_, ⊎-elim, ⊎-map, _↔_}
+use mathlib.Core.Logic.{_⊎_, inl, inr, ⊎-elim, ⊎-map, _↔_}
 use mathlib.Core.Option.{none, some}
 use Prim.Native.Nat.{ℕ, zero, suc, _+_, _≤_, _<_}
 use native.Mathlib.Numerals.{add-one}
@@ -24,6 +24,15 @@ use Rattle.coverage.specs.Promises.{Parted}
 abbrev pub isFaulty : ℕ → ℕ → Range → Bool
 isFaulty sky least r = leb (r .to) (r .from) || (ltb sky (r .to) || ltb (r .from) least)
 
+-- of three tests one is true, or none is
+pub one-true : (a b c : Bool) → (a ≡ true) ⊎ ((b ≡ true) ⊎ (c ≡ true)) → (a || (b || c)) ≡ true
+one-true a b c (inl e) = rw e
+one-true a b c (inr (inl e)) = rw e (or-true a)
+one-true a b c (inr (inr e)) = rw (e, or-true b) (or-true a)
+
+pub none-true : (a b c : Bool) → a ≡ false → b ≡ false → c ≡ false → (a || (b || c)) ≡ false
+none-true a b c e f g = rw (e, f, g)
+
 -- ---- what passes
 faulty-false : (sky least : ℕ) (r : Range) → isFaulty sky least r ≡ false → (least ≤ r .from) × (r .from < r .to) × (r .to ≤ sky)
 faulty-false sky least r e =
@@ -32,7 +41,7 @@ faulty-false sky least r e =
     (ltb-false (r .from) least (b .1), leb-false (r .to) (r .from) (a .0), ltb-false sky (r .to) (b .0))
 
 not-faulty : (sky least : ℕ) (r : Range) → least ≤ r .from → r .from < r .to → r .to ≤ sky → isFaulty sky least r ≡ false
-not-faulty sky least r u v w = rw (lt-leb (r .to) (r .from) v, le-ltb sky (r .to) w, le-ltb (r .from) least u)
+not-faulty sky least r u v w = none-true _ _ _ (lt-leb (r .to) (r .from) v) (le-ltb sky (r .to) w) (le-ltb (r .from) least u)
 
 passed-parted : (sky least i : ℕ) (rs : List Range) → rangesRefusal sky least i rs ≡ none → Parted least sky rs
 unfolding rangesRefusal
