@@ -38,9 +38,9 @@ module _ (D : ℕ) (zs ss es : List ℕ) where
   call-refused r c e = rw (check-refused (coverageInputRefusal D zs (length ss) (length es)) r (sym e ∙ c)) refl
 
   module _ (p : Passed D zs (length ss) (length es)) where
-    pub call-no-space : length ss < length (coverageOf 29 zs) → (Covered.Refused Refusal.NoSpace, ss, es) ≡ coverageCall D zs ss es
+    pub call-no-space : (n : ℕ) → n ≡ length (coverageOf 29 zs) → length ss < n → (Covered.Refused Refusal.NoSpace, ss, es) ≡ coverageCall D zs ss es
     unfolding coverageCall coverageRefusal
-    call-no-space l = rw (p .refusal, lt-ltb (length ss) (length (coverageOf 29 zs)) l) refl
+    call-no-space n k l = rw (p .refusal, ← k, lt-ltb (length ss) n l) refl
 
     pub call-written : (n : ℕ) (ss₁ es₁ ss₂ es₂ : List ℕ) → n ≡ length (coverageOf 29 zs) → n ≤ length ss → Stand (coverageOf 29 zs) ss₁ es₁ → length ss₁ ≡ length ss → length es₁ ≡ length es
         → ss₂ ≡ take n ss₁ ++ replicate (length ss₁ - n) 0 → es₂ ≡ take n es₁ ++ replicate (length es₁ - n) 0

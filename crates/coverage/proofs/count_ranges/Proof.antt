@@ -32,9 +32,9 @@ loop-again c =
     let l = t .loop-test .taken in
     let x = c .before .before .entry-range .ensures in
     ⊎-elim
-        (λ w. (_, renumber (w .1) (joining-new _ _ _ _ _ j l _ _ x (w .0 .taken))))
-        (λ w. (_, renumber (w .1) (joining-same _ _ _ _ _ j l _ _ x (w .0 .left) .3)))
-        (c .if1 .came)
+    (λ w. (_, renumber (w .1) (joining-new _ _ _ _ _ j l _ _ x (w .0 .taken))))
+    (λ w. (_, renumber (w .1) (joining-same _ _ _ _ _ j l _ _ x (w .0 .left) .3)))
+    (c .if1 .came)
 
 mul-entry-range : tie.Need-mul-entry-range Inv-loop μ-loop
 mul-entry-range c = search needs

@@ -32,9 +32,9 @@ loop-again c =
     let p = start (t .before) .pre in
     let x = c .before .before .entry-range .ensures in
     ⊎-elim
-        (λ w. as-written (w .1) (w .2) (w .3) (writing-same _ _ _ _ _ _ _ _ (t .before .loop .inv) (t .loop-test .taken) _ _ x (p .2) (w .0 .taken)))
-        (λ w. as-written (w .1) (w .2) (w .3) (writing-new _ _ _ _ _ _ _ _ (t .before .loop .inv) (t .loop-test .taken) _ _ x (p .1) (p .2) (w .0 .left)))
-        (c .if1 .came)
+    (λ w. as-written (w .1) (w .2) (w .3) (writing-same _ _ _ _ _ _ _ _ (t .before .loop .inv) (t .loop-test .taken) _ _ x (p .2) (w .0 .taken)))
+    (λ w. as-written (w .1) (w .2) (w .3) (writing-new _ _ _ _ _ _ _ _ (t .before .loop .inv) (t .loop-test .taken) _ _ x (p .1) (p .2) (w .0 .left)))
+    (c .if1 .came)
 
 -- Where a range starts at the end before, there is a last range; where not, there is a place for it.
 place : (c : tie.Then1 Inv-loop μ-loop) → (1 ≤ turn (c .before) .before .loop .n) × (turn (c .before) .before .loop .n - 1 < length (turn (c .before) .before .loop .ends))
