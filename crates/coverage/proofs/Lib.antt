@@ -1,0 +1,9 @@
+pub mod Ranges
+pub mod Inside
+pub mod Given
+pub mod Exact
+pub mod Intersection
+pub mod Widths
+pub mod Joining
+pub mod Writing
+pub mod Call
