@@ -136,7 +136,7 @@ module _ (m : Given Float) (good : Good m) where
       let l = laid-again (m .depth) 0 (m .zuniqs) (m .values) (good .paired) (valid-rises 29 (m .depth) (m .zuniqs) (good .valid)) in
       let k : length (entriesOf (m .zuniqs) (m .values)) ≡ length (m .zuniqs) = sym (length-map (entriesOf (m .zuniqs) (m .values)) (zuniqOf 29)) ∙ ap length (l .0) in
       let back : clippedOf (m .zuniqs) (m .values) (map fromOf own) (map toOf own) ≡ entriesOf (m .zuniqs) (m .values) =
-              rw (ranges-again own, ← cover-of-map (m .depth) (m .zuniqs) (m .values) (good .paired) (good .valid)) (clip-own 29 (entries m) (entries-rise (m .depth) (m .zuniqs) (m .values) (good .paired) (good .valid))) in
+      rw (ranges-again own, ← cover-of-map (m .depth) (m .zuniqs) (m .values) (good .paired) (good .valid)) (clip-own 29 (entries m) (entries-rise (m .depth) (m .zuniqs) (m .values) (good .paired) (good .valid))) in
       rw (passes-with own (coverage-parted 29 (m .depth) (m .zuniqs) (good .valid)) (length zs) (length vs) e, back, k, le-ltb (length zs) (length (m .zuniqs)) room, k, l .0, l .1) refl
 
   -- "An empty coverage gives the empty map": the call is not refused, answers 0, and every place is 0.

@@ -90,8 +90,7 @@ module _ (a b : ℕ) (some : a < b) (base : b ≤ a + 4 ^ 29) where
       let s : 29 - (29 - k) ≡ k = omega (arith, n .0) in
       let p : 4 ^ (29 - (29 - k)) ≡ 2 ^ (2 * k) = rw s (four-pow-two k) in
       let f : 2 ^ (2 * k) ≤ 2 ^ j = pow-mono (n .1) in
-      let h : a / 2 ^ (2 * k) * 2 ^ (2 * k) ≡ a = zeros-divide 64 (2 * k) a (n .2) in
-      (
+      let h : a / 2 ^ (2 * k) * 2 ^ (2 * k) ≡ a = zeros-divide 64 (2 * k) a (n .2) in (
         29 - k,
         a / 2 ^ (2 * k),
         record {

@@ -124,10 +124,10 @@ module _ {A : Type 0} (K : ℕ) (l : List (Entry A)) (rising : Rises K 0 (nHash 
       let clip = cover-exact K (clipped K l rs) (clip-rises K l rs) in
       let own = cover-exact K l rising in
       parted-unique 0 (nHash K) 0 (nHash K) (coverOf K (clipped K l rs)) (intersection (coverOf K l) rs)
-          (cover-parted K (clipped K l rs) (clip-rises K l rs))
-          (intersection-parted 0 (nHash K) 0 (nHash K) (coverOf K l) rs (cover-parted K l rising) parted)
-          (λ k m. let c = both k .0 (clip k .0 m) in intersection-exact (coverOf K l) rs k .1 (own k .1 (c .0), c .1))
-          (λ k m. let c = intersection-exact (coverOf K l) rs k .0 m in clip k .1 (both k .1 (own k .0 (c .0), c .1)))
+      (cover-parted K (clipped K l rs) (clip-rises K l rs))
+      (intersection-parted 0 (nHash K) 0 (nHash K) (coverOf K l) rs (cover-parted K l rising) parted)
+      (λ k m. let c = both k .0 (clip k .0 m) in intersection-exact (coverOf K l) rs k .1 (own k .1 (c .0), c .1))
+      (λ k m. let c = intersection-exact (coverOf K l) rs k .0 m in clip k .1 (both k .1 (own k .0 (c .0), c .1)))
 
   -- ---- its own coverage
   -- What lies in an entry lies inside the coverage.

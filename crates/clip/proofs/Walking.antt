@@ -276,7 +276,7 @@ module _ (mz : List ℕ) (mv : List Float) (ss es : List ℕ) where
         can-cut room q cells t =
             let w = cut-so-far q cells t in
             let sub = rises-sub 29 0 (w .0) 0 (nHash 29) (s .cells ++ cells) (clippedOf mz mv ss es) (w .1 .rises) (clip-rises 29 (entriesOf mz mv) (rangesOf ss es))
-                    (λ o m. clip-has-iff 29 (entriesOf mz mv) (rangesOf ss es) (holds .rises) o .1 (w .1 .sound o m)) in
+            (λ o m. clip-has-iff 29 (entriesOf mz mv) (rangesOf ss es) (holds .rises) o .1 (w .1 .sound o m)) in
             room-less pass n (s .cells) cells (clippedOf mz mv ss es) zs₀ vs₀ zs vs (s .number) sub (s .places) (s .values) room
 
         module _ (zs′ : List ℕ) (vs′ : List Float) (n′ : ℕ) (c : IsCut pass n from to (getD mv i nan) zs vs n′ zs′ vs′) (lz : length zs′ ≡ length zs) (lv : length vs′ ≡ length vs) where
