@@ -1,9 +1,9 @@
 -- The call: its checks are the rows of the table, and what it answers and leaves in the buffers is what the definition says. Assumes
 -- nothing.
-use mathlib.Core.Path.{_≡_, refl, ap, sym, _∙_}
+use mathlib.Core.Path.{_≡_, refl, ap, ap₂, sym, _∙_}
 use mathlib.Core.Bool.{_||_, not}
 use mathlib.Core.List.{List, _++_}
-use mathlib.Core.Option.{Option, none}
+use mathlib.Core.Option.{Option, none, some}
 use Prim.Native.Nat.{ℕ, _+_, _-_, _^_, _≤_, _<_}
 use lib.Dec.{eqb, ltb}
 use lib.Ieee.{Float}
@@ -28,10 +28,15 @@ use Rattle.coverage.specs.Promises.{Parted}
 use Rattle.coverage.proofs.Given.{accepted-parted}
 use Rattle.clip.specs.declared.Clipped.{Clipped}
 use Rattle.clip.specs.declared.Pass.{Pass}
-use Rattle.clip.specs.Call.{clippedOf, clipInputRefusal, clipRefusal, clipCall}
+use Rattle.clip.specs.Call.{clippedOf, clipInputRefusal, clipRefusal, clipCall, firstOf}
 use Rattle.clip.specs.Passes.{Outcome}
 use Rattle.clip.proofs.Tree.{clip-length}
 use Rattle.clip.proofs.Levels.{sky-is}
+
+-- Of two checks the first that refuses tells the first refusal.
+first-of : (o p : Option Refusal) → firstOf (checkOf o) (checkOf p) ≡ checkOf (orElse o p)
+first-of none p = refl
+first-of (some r) p = refl
 
 pairs-pass : (lz lv rz rv places values : ℕ) → pairsRefusal lz lv rz rv places values ≡ none → (lz ≡ lv) × (rz ≡ rv) × (places ≡ values)
 unfolding pairsRefusal
@@ -89,11 +94,8 @@ module _ (m : Given Float) (ss es : List ℕ) (places values : ℕ) where
       row5 r c e = sym (ap checkOf (after4 ∙ refuses rows5 (orElse rows6 rows14) c e))
 
       module _ {y : Check} (c5 : y ≡ checkOf rows5) (p5 : y ≡ Check.Passed) where
-        pub row6 : {z : Check} (r : Refusal) → z ≡ checkOf rows6 → z ≡ Check.Refused r → Check.Refused r ≡ checkOf (clipInputRefusal m ss es places values)
-        row6 r c e = sym (ap checkOf (after4 ∙ passes rows5 (orElse rows6 rows14) c5 p5 ∙ refuses rows6 rows14 c e))
-
-        pub row14 : {z w : Check} → z ≡ checkOf rows6 → z ≡ Check.Passed → w ≡ checkOf rows14 → w ≡ checkOf (clipInputRefusal m ss es places values)
-        row14 c e l = l ∙ sym (ap checkOf (after4 ∙ passes rows5 (orElse rows6 rows14) c5 p5 ∙ passes rows6 rows14 c e))
+        pub rows6and14 : {z d r : Check} → d ≡ checkOf rows6 → r ≡ checkOf rows14 → z ≡ firstOf d r → z ≡ checkOf (clipInputRefusal m ss es places values)
+        rows6and14 c6 c14 l = l ∙ ap₂ firstOf c6 c14 ∙ first-of rows6 rows14 ∙ sym (ap checkOf (after4 ∙ passes rows5 (orElse rows6 rows14) c5 p5))
 
   pub passes-all : clipInputRefusal m ss es places values ≡ none → Passed m ss es places values
   unfolding clipInputRefusal

@@ -14,6 +14,7 @@ use Rattle.build.specs.Map.{Entry, orElse}
 use Rattle.build.specs.Buffers.{zuniqOf, valueOf}
 use Rattle.build.specs.Add.{refusedIf, mapRefusal}
 use Rattle.build.specs.Densities.{densityRefusal}
+use Rattle.build.specs.declared.Check.{Check}
 use Rattle.combine.specs.Slices.{entriesOf}
 use Rattle.combine.specs.Pool.{Given, pairsRefusal, placesRefusal}
 use Rattle.coverage.specs.Ranges.{rangesOf, padded, rangesRefusal}
@@ -46,3 +47,8 @@ clippedOr none l zs vs = (Clipped.Cells (length l), padded 0 (length zs) (map (z
 
 unfoldable pub clipCall : Given Float → List ℕ → List ℕ → List ℕ → List Float → Clipped × List ℕ × List Float
 clipCall m ss es zs vs = clippedOr (clipRefusal m ss es (length zs) (length vs)) (clippedOf (m .zuniqs) (m .values) ss es) zs vs
+
+-- of two checks the first that refuses
+abbrev pub firstOf : Check → Check → Check
+firstOf (Check.Refused r) second = Check.Refused r
+firstOf Check.Passed second = second

@@ -21,7 +21,7 @@ ghost use Rattle.combine.specs.Pool.{Given};
 ghost use Rattle.combine.specs.Slices.{Holds};
 ghost use Rattle.coverage.specs.Ranges.{rangesOf};
 ghost use Rattle.coverage.specs.Promises.{Parted};
-ghost use Rattle.clip.specs.Call.{clippedOf, clipInputRefusal, clipCall};
+ghost use Rattle.clip.specs.Call.{clippedOf, clipInputRefusal, clipCall, firstOf};
 ghost use Rattle.clip.specs.Passes.{Outcome, Room, LargestWidth, CanCut, IsCut, CanKeep, Kept};
 use build::Check;
 use build::check_map;
@@ -123,10 +123,19 @@ fn check(
     if let Check::Refused(refusal) = check_map(depth, map_zuniqs) {
         return Check::Refused(refusal);
     }
-    if let Check::Refused(refusal) = check_densities(map_densities) {
+    let densities = check_densities(map_densities);
+    let ranges = check_ranges(starts, ends);
+    first_refusal(densities, ranges)
+}
+
+// What two checks come to, the first of which is tried first.
+fn first_refusal(first: Check, second: Check) -> Check
+    ensures { λ r. ⌜ r ≡ firstOf first second ⌝ }
+{
+    if let Check::Refused(refusal) = first {
         return Check::Refused(refusal);
     }
-    check_ranges(starts, ends)
+    second
 }
 
 // Walks a valid map and a coverage side by side: what the next entry and the next range have in common is

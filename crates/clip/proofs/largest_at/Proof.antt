@@ -15,6 +15,9 @@ use Rattle.clip.proofs.largest_at.Lts as lts
 smaller-is : (c : lts.After-row-known reads.Pre reads.Post) → c .before .if1 .levels ≡ min (trailingZeros 64 (c .before .before .args .at)) (63 - leadingZeros 64 (c .before .before .args .to - c .before .before .args .at))
 smaller-is c = ⊎-elim (λ w. omega (arith, w .0 .taken, w .1)) (λ w. omega (arith, w .0 .left, w .1)) (c .before .if1 .came)
 
+returns : tie.Need-returns
+returns c = largest-shifted (c .before .before .args .at) (c .before .before .args .to) (c .before .before .pre .0) (c .before .before .pre .1) _ (smaller-is c) .1
+
 sub-bits : tie.Need-sub-bits
 sub-bits c = search needs
 
@@ -29,9 +32,6 @@ cast-result c = search needs
 
 shl-result : tie.Need-shl-result
 shl-result c = largest-shifted (c .before .before .args .at) (c .before .before .args .to) (c .before .before .pre .0) (c .before .before .pre .1) _ (smaller-is c) .0
-
-returns : tie.Need-returns
-returns c = largest-shifted (c .before .before .args .at) (c .before .before .args .to) (c .before .before .pre .0) (c .before .before .pre .1) _ (smaller-is c) .1
 
 pub largest-at-spec : {M : Type 1} → statement M
 largest-at-spec =
