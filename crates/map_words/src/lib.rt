@@ -1,8 +1,10 @@
 // The words in which the C functions answer of maps, rows and densities. `words` tells what a word is.
 ghost use mathlib.Core.Path.{_≡_};
-ghost use Rattle.words.specs.Words.{faultKind, mapCheckWord, containingWord, runWord, countsWord, densitiesWord, movedWord, rowsWord, countDensityWord, patternDensityWord, densityPatternWord};
+ghost use Rattle.words.specs.Words.{faultKind, mapCheckWord, containingWord, runWord, countsWord, densitiesWord, movedWord, coveredWord, clippedWord, rowsWord, countDensityWord, patternDensityWord, densityPatternWord};
 use build::counts::CountsAdded;
 use build::densities::DensitiesAdded;
+use clip::Clipped;
+use coverage::Covered;
 use density::CountDensity;
 use density::DensityPattern;
 use density::PatternDensity;
@@ -111,6 +113,26 @@ pub fn moved_word(answer: Moved, depth: &mut u8) -> u64
             word(ACCEPTED, entries as u64)
         }
         Moved::Refused(refusal) => refused(refusal),
+    }
+}
+
+// The number of ranges of a coverage.
+pub fn coverage_word(answer: Covered) -> u64
+    ensures { λ r. ⌜ r ≡ coveredWord answer ⌝ }
+{
+    match answer {
+        Covered::Ranges(number) => word(ACCEPTED, number as u64),
+        Covered::Refused(refusal) => refused(refusal),
+    }
+}
+
+// The number of cells of a clipped map.
+pub fn clipped_word(answer: Clipped) -> u64
+    ensures { λ r. ⌜ r ≡ clippedWord answer ⌝ }
+{
+    match answer {
+        Clipped::Cells(number) => word(ACCEPTED, number as u64),
+        Clipped::Refused(refusal) => refused(refusal),
     }
 }
 

@@ -1,4 +1,4 @@
--- What adding, combining and moving leave, by the words of their answers. Assumes nothing.
+-- What adding, combining, moving, covering and clipping leave, by the words of their answers. Assumes nothing.
 use mathlib.Core.Path.{_≡_, ap, subst}
 use mathlib.Core.List.{List}
 use Prim.Native.Nat.{ℕ}
@@ -6,8 +6,10 @@ use lib.Ieee.{Float}
 use Rattle.build.specs.declared.counts.CountsAdded.{CountsAdded}
 use Rattle.build.specs.declared.densities.DensitiesAdded.{DensitiesAdded}
 use Rattle.moving.specs.declared.Moved.{Moved}
-use Rattle.words.specs.Words.{countsWord, densitiesWord, movedWord}
-use Rattle.mom_c.specs.Answers.{countsAddedWord, densitiesAddedWord, movedMapWord}
+use Rattle.coverage.specs.declared.Covered.{Covered}
+use Rattle.clip.specs.declared.Clipped.{Clipped}
+use Rattle.words.specs.Words.{countsWord, densitiesWord, movedWord, coveredWord, clippedWord}
+use Rattle.mom_c.specs.Answers.{countsAddedWord, densitiesAddedWord, movedMapWord, coveredRangesWord, clippedMapWord}
 
 pub counts-told : (t : CountsAdded × List ℕ × List ℕ) (a : CountsAdded) (r total old : ℕ) (zs vs : List ℕ) → (a, zs, vs) ≡ t → (r, total) ≡ countsWord a old → (r, total, zs, vs) ≡ countsAddedWord t old
 unfolding countsAddedWord
@@ -26,3 +28,15 @@ unfolding movedMapWord
 moved-told t a r depth old zs vs e q =
     subst (λ (x : Moved × List ℕ × List ℕ). (r, depth, zs, vs) ≡ movedMapWord x old) e
     (ap (λ (w : ℕ × ℕ). (w .0, w .1, zs, vs)) q)
+
+pub covered-told : (t : Covered × List ℕ × List ℕ) (a : Covered) (r : ℕ) (ss es : List ℕ) → (a, ss, es) ≡ t → r ≡ coveredWord a → (r, ss, es) ≡ coveredRangesWord t
+unfolding coveredRangesWord
+covered-told t a r ss es e q =
+    subst (λ (x : Covered × List ℕ × List ℕ). (r, ss, es) ≡ coveredRangesWord x) e
+    (ap (λ (w : ℕ). (w, ss, es)) q)
+
+pub clipped-told : (t : Clipped × List ℕ × List Float) (a : Clipped) (r : ℕ) (zs : List ℕ) (vs : List Float) → (a, zs, vs) ≡ t → r ≡ clippedWord a → (r, zs, vs) ≡ clippedMapWord t
+unfolding clippedMapWord
+clipped-told t a r zs vs e q =
+    subst (λ (x : Clipped × List ℕ × List Float). (r, zs, vs) ≡ clippedMapWord x) e
+    (ap (λ (w : ℕ). (w, zs, vs)) q)

@@ -1,6 +1,7 @@
 // The C functions: section 7 of the scope, on numbers and byte slices. `ingest` has those of the Rust
 // ingest process: rows, and the check and lookup of maps that come as rows. `domes` has those of the
-// dome boxes, `widths` what goes between the two widths, and `disks` rows laid out by byte column.
+// dome boxes, `widths` what goes between the two widths, `disks` rows laid out by byte column, and
+// `reach` the area that observers can reach.
 // Those here are for the comparison with the original and the benchmark; the check and lookup take the
 // zuniqs of a map.
 //
@@ -38,6 +39,7 @@ mod combining;
 mod disks;
 mod domes;
 mod ingest;
+mod reach;
 mod widths;
 
 // The number of cells at a depth.

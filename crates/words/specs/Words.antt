@@ -28,6 +28,10 @@ use Rattle.build.specs.declared.counts.CountsAdded.{CountsAdded}
 use Rattle.build.specs.declared.densities.DensitiesAdded.{DensitiesAdded}
 use Rattle.moving.specs.Told.{toldMoved}
 use Rattle.moving.specs.declared.Moved.{Moved}
+use Rattle.coverage.specs.Told.{toldCovered}
+use Rattle.coverage.specs.declared.Covered.{Covered}
+use Rattle.clip.specs.Told.{toldClipped}
+use Rattle.clip.specs.declared.Clipped.{Clipped}
 use Rattle.rows.specs.Told.{toldRows}
 use Rattle.rows.specs.declared.Rows.{Rows}
 use Rattle.density.specs.Told.{toldCountDensity, toldDensity, toldPattern}
@@ -161,6 +165,13 @@ depthBeside (Told.answer t) = Told.answer (t .1, t .0)
 
 unfoldable pub movedWord : Moved → ℕ → ℕ × ℕ
 movedWord a old = bothWord (depthBeside (toldMoved a)) old
+
+-- "Both answer the number of cells or ranges"
+unfoldable pub coveredWord : Covered → ℕ
+coveredWord a = inWord (toldCovered a)
+
+unfoldable pub clippedWord : Clipped → ℕ
+clippedWord a = inWord (toldClipped a)
 
 -- "Both row calls answer the number of rows"
 unfoldable pub rowsWord : Rows → ℕ
