@@ -39,6 +39,11 @@ use Rattle.combine.specs.Pool as Combining
 use Rattle.combine.specs.Pool.{Given, entries, resultDepth, poolKept, productKept, poolCounts, productDensities}
 use Rattle.moving.specs.Moving.{deepRefusal, entriesRefusal, movingRefusal, movedOr, moved}
 use Rattle.moving.specs.Told.{toldMoved}
+use Rattle.coverage.specs.Ranges.{Range, rangesOf, rangesRefusal}
+use Rattle.coverage.specs.Coverage.{coverageOf, coverageInputRefusal, coverageRefusal, coveredOr, coverageCall}
+use Rattle.coverage.specs.Told.{toldCovered}
+use Rattle.clip.specs.Call.{clippedOf, clipInputRefusal, clipRefusal, clippedOr, clipCall}
+use Rattle.clip.specs.Told.{toldClipped}
 use Rattle.rows.specs.Rows.{differ, places, rowsToRead, rowsToWrite}
 use Rattle.rows.specs.Told.{toldRows}
 use Rattle.rows.specs.declared.Rows.{Rows}
@@ -432,3 +437,63 @@ module _ (k : ℕ) (bytes output : List ℕ) where
   pub columns-to-rows-tells : toldRows (columnsToRows k bytes output .0) ≡ layTold k (length bytes) (length output)
   unfolding columnsToRows
   columns-to-rows-tells = laid-told (rowsToLay k (length bytes) (length output)) _ output ∙ lay-tells k (length bytes) (length output)
+
+-- ---- note 6
+covered-told : (o : Option Refusal) (rs : List Range) (ss es : List ℕ) → toldCovered (coveredOr o rs ss es .0) ≡ rowsOf o (Told.answer (length rs))
+covered-told none rs ss es = refl
+covered-told (some r) rs ss es = refl
+
+clipped-told : (o : Option Refusal) (l : List (Entry Float)) (zs : List ℕ) (vs : List Float) → toldClipped (clippedOr o l zs vs .0) ≡ rowsOf o (Told.answer (length l))
+clipped-told none l zs vs = refl
+clipped-told (some r) l zs vs = refl
+
+-- Writing a coverage: 1, 4, 5, 11.
+module _ (D : ℕ) (zs ss es : List ℕ) where
+  pub coverage-tells : toldCovered (coverageCall D zs ss es .0)
+      ≡ row 1 (ltb 29 D)
+      (row 4 (not (eqb (length ss) (length es)))
+      (rowAt 5 (faultyEntry (firstFault 29 D zs))
+      (row 11 (ltb (length ss) (length (coverageOf 29 zs)))
+      (Told.answer (length (coverageOf 29 zs))))))
+  unfolding coverageCall coverageRefusal coverageInputRefusal
+  coverage-tells =
+      let input = coverageInputRefusal D zs (length ss) (length es) in
+      let last : Told ℕ = row 11 (ltb (length ss) (length (coverageOf 29 zs))) (Told.answer (length (coverageOf 29 zs))) in
+      covered-told (coverageRefusal D zs (length ss) (length es)) (coverageOf 29 zs) ss es
+      ∙ in-order input _ _
+      ∙ ap (rowsOf input) (one-row (ltb (length ss) (length (coverageOf 29 zs))) _ _)
+      ∙ in-order (refusedIf (ltb 29 D) Refusal.DepthOutOfRange) _ last
+      ∙ one-row (ltb 29 D) _ _
+      ∙ ap (row 1 (ltb 29 D)) (in-order (refusedIf (not (eqb (length ss) (length es))) Refusal.LengthMismatch) _ last
+      ∙ one-row (not (eqb (length ss) (length es))) _ _
+      ∙ ap (row 4 (not (eqb (length ss) (length es)))) (map-row (firstFault 29 D zs) last))
+
+-- Clipping: 1, 4, 5, 6, 14 "tried after 6", 11.
+module _ (m : Given Float) (ss es : List ℕ) (zs : List ℕ) (vs : List Float) where
+  -- "4. Paired buffers differ in length": of the map, the coverage and the output
+  abbrev pub unpairedToClip : Bool
+  unpairedToClip = not (eqb (length (m .zuniqs)) (length (m .values))) || (not (eqb (length ss) (length es)) || not (eqb (length zs) (length vs)))
+
+  pub clip-tells : toldClipped (clipCall m ss es zs vs .0)
+      ≡ row 1 (ltb 29 (m .depth))
+      (row 4 unpairedToClip
+      (rowAt 5 (faultyEntry (firstFault 29 (m .depth) (m .zuniqs)))
+      (rowsOf (densityRefusal 0 (m .values))
+      (rowsOf (rangesRefusal (nHash 29) 0 0 (rangesOf ss es))
+      (row 11 (ltb (length zs) (length (clippedOf (m .zuniqs) (m .values) ss es)))
+      (Told.answer (length (clippedOf (m .zuniqs) (m .values) ss es))))))))
+  unfolding clipCall clipRefusal clipInputRefusal Combining.pairsRefusal Combining.placesRefusal
+  clip-tells =
+      let cells = clippedOf (m .zuniqs) (m .values) ss es in
+      let input = clipInputRefusal m ss es (length zs) (length vs) in
+      let last : Told ℕ = row 11 (ltb (length zs) (length cells)) (Told.answer (length cells)) in
+      clipped-told (clipRefusal m ss es (length zs) (length vs)) cells zs vs
+      ∙ in-order input _ _
+      ∙ ap (rowsOf input) (one-row (ltb (length zs) (length cells)) _ _)
+      ∙ in-order (refusedIf (ltb 29 (m .depth)) Refusal.DepthOutOfRange) _ last
+      ∙ one-row (ltb 29 (m .depth)) _ _
+      ∙ ap (row 1 (ltb 29 (m .depth))) (in-order (refusedIf unpairedToClip Refusal.LengthMismatch) _ last
+      ∙ one-row unpairedToClip _ _
+      ∙ ap (row 4 unpairedToClip) (in-order (mapRefusal (firstFault 29 (m .depth) (m .zuniqs))) _ last
+      ∙ map-row (firstFault 29 (m .depth) (m .zuniqs)) _
+      ∙ ap (rowAt 5 (faultyEntry (firstFault 29 (m .depth) (m .zuniqs)))) (in-order (densityRefusal 0 (m .values)) _ last)))

@@ -3,18 +3,20 @@
 use mathlib.Core.Path.{_≡_, refl}
 use mathlib.Core.Bool.{Bool, true, false, _&&_}
 use mathlib.Core.List.{List, [], _∷_, _++_}
+use mathlib.Core.Option.{Option, none, some}
 use Prim.Native.Nat.{ℕ, zero, suc, _+_, _-_}
 use lib.Dec.{eqb}
 use lib.IntN.{pos, negsuc}
 use lib.ListN.{length}
 use lib.Ieee as Ieee
 use lib.Ieee.{Float, nan, inf, fin, isNan}
-use Rattle.zuniq.specs.Cells.{nHash, liesIn, overlap}
+use Rattle.zuniq.specs.Cells.{nHash, liesIn, overlap, start, end}
 use Rattle.refusal.specs.Refusals.{numberOf, placeOf}
+use Rattle.refusal.specs.declared.Refusal.{Refusal}
 use Rattle.zuniq.specs.Codec.{zuniq, encode, hashAt, isZuniqAt, cellUpTo, decode, overlapOf, overlapTest}
 use Rattle.zuniq.specs.declared.Encoded.{Encoded}
 use Rattle.zuniq.specs.declared.Decoded.{Decoded}
-use Rattle.merger.specs.Floats.{0·0, 1·0}
+use Rattle.merger.specs.Floats.{0·0, 1·0, invalidDensity}
 use Rattle.merger.specs.Merge.{chiOfCounts, mergeByChi, mergeCounts, mergedCount, acceptCounts, countMerger}
 use Rattle.merger.specs.declared.CountMerge.{CountMerge}
 use Rattle.merger.specs.declared.CountMerger.{CountMerger}
@@ -22,10 +24,18 @@ use Rattle.mom.specs.Map.{isYes, overlaps, faultAfter, faultOf, faultAt, atOr, 
 use Rattle.build.specs.Map.{Entry, entry, joined, listed, whole, tops, definedMap}
 use Rattle.build.specs.Buffers.{batch, laid, filled, readOnto, held}
 use Rattle.build.specs.Add.{lengthsRefusal, mapRefusal, spaceRefusal}
+use Rattle.build.specs.Densities.{densityRefusal}
 use Rattle.combine.specs.Overlay.{someEntry, fits, part, valueIn, overlayIn, overlay}
 use Rattle.combine.specs.Rules.{kept, combined, splitCount, definedPool}
+use Rattle.combine.specs.Pool.{Given, pairsRefusal, placesRefusal}
 use Rattle.moving.specs.Moving.{isDeeper, deepRefusal, entriesRefusal, movingRefusal, movedOr, moved}
 use Rattle.moving.specs.declared.Moved.{Moved}
+use Rattle.coverage.specs.Ranges.{Range, range, fromOf, toOf, rangesOf, inRanges, allInRanges, inCoverage, joinTouching, padded, rangesRefusal}
+use Rattle.coverage.specs.Coverage.{entryRanges, coverageOf, coverageInputRefusal, coverageRefusal, coverageCall}
+use Rattle.coverage.specs.declared.Covered.{Covered}
+use Rattle.clip.specs.Clip.{valueOver, inBoth, clipIn, clipped}
+use Rattle.clip.specs.Call.{clipInputRefusal, clipRefusal, clipCall}
+use Rattle.clip.specs.declared.Clipped.{Clipped}
 use Rattle.rows.specs.declared.Rows.{Rows}
 use Rattle.columns.specs.Columns as Columns
 use Rattle.columns.specs.Columns.{byColumn, byRow, named, rowsToLay, rowsToColumns, columnsToRows}
@@ -298,7 +308,103 @@ note4 =
     ∷ isMap (definedPool (acceptCounts 0 0·0) 1 (entry 0 0 0 ∷ []) (entry 1 1 0 ∷ [])) (0 ∷ 0 ∷ 0 ∷ [])
     ∷ []
 
+-- ---- what a row of note 6 says
+-- a coverage has exactly these ranges: start and end, one after the other
+areRanges : List Range → List ℕ → Bool
+areRanges [] [] = true
+areRanges [] (x ∷ rest) = false
+areRanges (r ∷ rs) [] = false
+areRanges (r ∷ rs) (a ∷ []) = false
+areRanges (r ∷ rs) (a ∷ b ∷ rest) = eqb (fromOf r) a && (eqb (toOf r) b && areRanges rs rest)
+
+-- writing a coverage answers this number of ranges, and leaves these starts and ends in the output
+covers : Covered × List ℕ × List ℕ → ℕ → List ℕ → List ℕ → Bool
+covers (Covered.Ranges number, ss, es) n xs ys = eqb number n && (isList ss xs && isList es ys)
+covers (Covered.Refused r, ss, es) n xs ys = false
+
+-- it is refused by this number, with this place, and leaves the output, which held 9 everywhere, as it was
+refusesCoverage : ℕ → ℕ → Covered × List ℕ × List ℕ → Bool
+refusesCoverage number place (Covered.Ranges n, ss, es) = false
+refusesCoverage number place (Covered.Refused r, ss, es) = eqb (numberOf r) number && (eqb (placeOf r) place && (isList ss (times (length ss) 9) && isList es (times (length es) 9)))
+
+-- a coverage that is given in starts and ends: accepted, or refused by 14 with this place
+givenRanges : List ℕ → List ℕ → Option Refusal
+givenRanges ss es = rangesRefusal (nHash 29) 0 0 (rangesOf ss es)
+
+accepts : Option Refusal → Bool
+accepts none = true
+accepts (some r) = false
+
+refusesRange : ℕ → Option Refusal → Bool
+refusesRange place none = false
+refusesRange place (some r) = eqb (numberOf r) 14 && eqb (placeOf r) place
+
+-- a map of this depth, in zuniqs and densities
+given : ℕ → List ℕ → List Float → Given Float
+given depth zs vs = record { depth = depth; zuniqs = zs; values = vs }
+
+areOnes : List Float → Bool
+areOnes [] = true
+areOnes (v ∷ vs) = Ieee.eq v 1·0 && areOnes vs
+
+-- clipping is refused by this number, with this place, and leaves the output, which held 9 and 1.0 everywhere, as it was
+refusesClip : ℕ → ℕ → Clipped × List ℕ × List Float → Bool
+refusesClip number place (Clipped.Cells n, zs, vs) = false
+refusesClip number place (Clipped.Refused r, zs, vs) = eqb (numberOf r) number && (eqb (placeOf r) place && (isList zs (times (length zs) 9) && areOnes vs))
+
+-- ---- note 6 of 02: coverage and clipping, with a largest depth of 1 or 2 where the tree is walked, else of 29
+pub note6 : List Bool
+unfolding areRanges covers refusesCoverage givenRanges accepts refusesRange given areOnes refusesClip isMap isList times −1·0 nHash liesIn overlap start end zuniq hashAt isZuniqAt cellUpTo decode overlapOf overlapTest isYes overlaps faultAfter faultOf faultAt atOr faultFrom firstFault joined mapRefusal pairsRefusal placesRefusal invalidDensity densityRefusal rangesOf inRanges allInRanges inCoverage joinTouching padded rangesRefusal entryRanges coverageOf coverageInputRefusal coverageRefusal coverageCall valueOver inBoth clipIn clipped clipInputRefusal clipRefusal clipCall Ieee.lt Ieee.eq isNan
+note6 =
+    -- "rising ranges, none touching the next": neighbours share one, (1,0), (1,1) and (1,3), and (0,0) and (1,4)
+    areRanges (coverageOf 1 (1 ∷ 3 ∷ 7 ∷ [])) (0 ∷ 2 ∷ 3 ∷ 4 ∷ [])
+    ∷ areRanges (coverageOf 1 (4 ∷ 9 ∷ [])) (0 ∷ 5 ∷ [])
+    -- "places after them are 0"; no entries, no ranges; (0,11) ends where the sky ends
+    ∷ covers (coverageCall 29 (1 ∷ 3 ∷ 7 ∷ []) (9 ∷ 9 ∷ 9 ∷ []) (9 ∷ 9 ∷ 9 ∷ [])) 2 (0 ∷ 3 ∷ 0 ∷ []) (2 ∷ 4 ∷ 0 ∷ [])
+    ∷ covers (coverageCall 29 [] (9 ∷ []) (9 ∷ [])) 0 (0 ∷ []) (0 ∷ [])
+    ∷ covers (coverageCall 0 (6629298651489370112 ∷ []) (9 ∷ []) (9 ∷ [])) 1 (3170534137668829184 ∷ []) (3458764513820540928 ∷ [])
+    -- "space is judged by it", the number of ranges, not of entries
+    ∷ covers (coverageCall 29 (1 ∷ 3 ∷ []) (9 ∷ []) (9 ∷ [])) 1 (0 ∷ []) (2 ∷ [])
+    ∷ refusesCoverage 11 0 (coverageCall 29 (1 ∷ 7 ∷ []) (9 ∷ []) (9 ∷ []))
+    -- 1 before 4, 4 before 5, 5 before 11
+    ∷ refusesCoverage 1 0 (coverageCall 30 (0 ∷ []) (9 ∷ []) [])
+    ∷ refusesCoverage 4 0 (coverageCall 29 (0 ∷ []) (9 ∷ []) [])
+    ∷ refusesCoverage 5 1 (coverageCall 29 (3 ∷ 1 ∷ []) [] [])
+    -- "every cell that lies inside an entry and inside the coverage": (0,0) of 7 in [0, 3)
+    ∷ isMap (clipped 1 (entry 0 0 7 ∷ []) (range 0 3 ∷ [])) (1 ∷ 0 ∷ 7 ∷ 1 ∷ 1 ∷ 7 ∷ 1 ∷ 2 ∷ 7 ∷ [])
+    -- "while its parent, if any, doesn't lie inside both": the largest cells, shallower ones in the middle; a base cell has no parent
+    ∷ isMap (clipped 2 (entry 0 0 7 ∷ []) (range 2 15 ∷ [])) (2 ∷ 2 ∷ 7 ∷ 2 ∷ 3 ∷ 7 ∷ 1 ∷ 1 ∷ 7 ∷ 1 ∷ 2 ∷ 7 ∷ 2 ∷ 12 ∷ 7 ∷ 2 ∷ 13 ∷ 7 ∷ 2 ∷ 14 ∷ 7 ∷ [])
+    ∷ isMap (clipped 2 (entry 0 0 7 ∷ []) (range 0 192 ∷ [])) (0 ∷ 0 ∷ 7 ∷ [])
+    -- "with the entry's density": two ranges in one entry, and two entries in one range
+    ∷ isMap (clipped 1 (entry 0 0 7 ∷ entry 1 4 3 ∷ entry 1 6 5 ∷ []) (range 1 2 ∷ range 3 7 ∷ [])) (1 ∷ 1 ∷ 7 ∷ 1 ∷ 3 ∷ 7 ∷ 1 ∷ 4 ∷ 3 ∷ 1 ∷ 6 ∷ 5 ∷ [])
+    -- "nothing merged": four siblings of one density
+    ∷ isMap (clipped 1 (entry 1 0 7 ∷ entry 1 1 7 ∷ entry 1 2 7 ∷ entry 1 3 7 ∷ []) (range 0 48 ∷ [])) (1 ∷ 0 ∷ 7 ∷ 1 ∷ 1 ∷ 7 ∷ 1 ∷ 2 ∷ 7 ∷ 1 ∷ 3 ∷ 7 ∷ [])
+    -- "Clipping to the map's own coverage gives its entries back": (0,0), (1,4), (1,6)
+    ∷ isMap (clipped 1 (entry 0 0 7 ∷ entry 1 4 3 ∷ entry 1 6 5 ∷ []) (coverageOf 1 (4 ∷ 9 ∷ 13 ∷ []))) (0 ∷ 0 ∷ 7 ∷ 1 ∷ 4 ∷ 3 ∷ 1 ∷ 6 ∷ 5 ∷ [])
+    -- no ranges, no entries, or none in common: no cells
+    ∷ isMap (clipped 1 (entry 0 0 7 ∷ []) []) []
+    ∷ isMap (clipped {A = ℕ} 1 [] (range 0 48 ∷ [])) []
+    ∷ isMap (clipped 1 (entry 0 0 7 ∷ []) (range 4 48 ∷ [])) []
+    -- "14, a range is empty, ends past N(29), or doesn't start above the previous end, place its range"
+    ∷ accepts (givenRanges (0 ∷ 4 ∷ []) (3 ∷ 3458764513820540928 ∷ []))
+    ∷ accepts (givenRanges [] [])
+    ∷ refusesRange 0 (givenRanges (3 ∷ []) (3 ∷ []))
+    ∷ refusesRange 1 (givenRanges (0 ∷ 9 ∷ []) (3 ∷ 8 ∷ []))
+    ∷ refusesRange 1 (givenRanges (0 ∷ 4 ∷ []) (3 ∷ 3458764513820540929 ∷ []))
+    ∷ refusesRange 1 (givenRanges (0 ∷ 3 ∷ []) (3 ∷ 5 ∷ []))
+    ∷ refusesRange 2 (givenRanges (4 ∷ 8 ∷ 0 ∷ []) (6 ∷ 9 ∷ 3 ∷ []))
+    -- a clip call: 1 before 4, 4 of each pair before 5, 5 before 6, 14 "tried after 6", and before 11
+    ∷ refusesClip 1 0 (clipCall (given 30 (0 ∷ []) []) [] [] (9 ∷ []) (1·0 ∷ []))
+    ∷ refusesClip 4 0 (clipCall (given 29 (0 ∷ []) []) [] [] (9 ∷ []) (1·0 ∷ []))
+    ∷ refusesClip 4 0 (clipCall (given 29 (0 ∷ []) (1·0 ∷ [])) (0 ∷ []) [] (9 ∷ []) (1·0 ∷ []))
+    ∷ refusesClip 4 0 (clipCall (given 29 (0 ∷ []) (1·0 ∷ [])) [] [] (9 ∷ 9 ∷ []) (1·0 ∷ []))
+    ∷ refusesClip 5 1 (clipCall (given 29 (3 ∷ 1 ∷ []) (−1·0 ∷ 1·0 ∷ [])) [] [] (9 ∷ []) (1·0 ∷ []))
+    ∷ refusesClip 6 1 (clipCall (given 29 (1 ∷ 3 ∷ []) (1·0 ∷ −1·0 ∷ [])) (3 ∷ []) (3 ∷ []) (9 ∷ []) (1·0 ∷ []))
+    ∷ refusesClip 14 1 (clipCall (given 29 (1 ∷ []) (1·0 ∷ [])) (0 ∷ 3 ∷ []) (3 ∷ 5 ∷ []) (9 ∷ []) (1·0 ∷ []))
+    ∷ refusesClip 14 0 (clipCall (given 29 (1 ∷ []) (1·0 ∷ [])) (3 ∷ []) (3 ∷ []) [] [])
+    ∷ []
+
 -- ---- all of them
-pub starred-cases : every (section1 ++ (section2 ++ (section4 ++ (section5 ++ (note1 ++ (note2 ++ (note3 ++ note4))))))) ≡ true
-unfolding every section1 section2 section4 section5 note1 note2 note3 note4
+pub starred-cases : every (section1 ++ (section2 ++ (section4 ++ (section5 ++ (note1 ++ (note2 ++ (note3 ++ (note4 ++ note6)))))))) ≡ true
+unfolding every section1 section2 section4 section5 note1 note2 note3 note4 note6
 starred-cases = refl
