@@ -24,13 +24,15 @@ pub record Passed (D : ℕ) (zs : List ℕ) (starts ends : ℕ) : Type 0 where
   pub paired : starts ≡ ends
   pub valid : ValidMap 29 D zs
 
-pub passed : {x : Check} (D : ℕ) (zs : List ℕ) (starts ends : ℕ) → x ≡ checkOf (coverageInputRefusal D zs starts ends) → x ≡ Check.Passed → Passed D zs starts ends
+pub passes-all : (D : ℕ) (zs : List ℕ) (starts ends : ℕ) → coverageInputRefusal D zs starts ends ≡ none → Passed D zs starts ends
 unfolding coverageInputRefusal
-passed D zs starts ends c e =
-    let o = check-passed (coverageInputRefusal D zs starts ends) (sym e ∙ c) in
+passes-all D zs starts ends o =
     let a = or-else-none (refusedIf (ltb 29 D) Refusal.DepthOutOfRange) (orElse (refusedIf (not (eqb starts ends)) Refusal.LengthMismatch) (mapRefusal (firstFault 29 D zs))) o in
     let b = or-else-none (refusedIf (not (eqb starts ends)) Refusal.LengthMismatch) (mapRefusal (firstFault 29 D zs)) (a .1) in
     record { refusal = o; paired = eqb-true starts ends (not-false _ (refused-if-none (not (eqb starts ends)) Refusal.LengthMismatch (b .0))); valid = map-passes 29 D zs (b .1) }
+
+pub passed : {x : Check} (D : ℕ) (zs : List ℕ) (starts ends : ℕ) → x ≡ checkOf (coverageInputRefusal D zs starts ends) → x ≡ Check.Passed → Passed D zs starts ends
+passed D zs starts ends c e = passes-all D zs starts ends (check-passed (coverageInputRefusal D zs starts ends) (sym e ∙ c))
 
 module _ (D : ℕ) (zs ss es : List ℕ) where
   pub call-refused : {x : Check} (r : Refusal) → x ≡ checkOf (coverageInputRefusal D zs (length ss) (length es)) → x ≡ Check.Refused r → (Covered.Refused r, ss, es) ≡ coverageCall D zs ss es

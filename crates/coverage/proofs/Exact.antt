@@ -1,6 +1,6 @@
 -- The coverage of a valid map: exactly the depth-K cells that lie in an entry, as parted ranges, at most as many as entries; and these
 -- are the only parted ranges that are. Over any largest depth K. Assumes nothing.
-use mathlib.Core.Path.{_≡_, refl}
+use mathlib.Core.Path.{_≡_}
 use mathlib.Core.Bool.{true}
 use mathlib.Core.List.{List, [], _∷_}
 use mathlib.Core.Logic.{_⊎_, inl, inr, ⊎-elim, _↔_}

@@ -62,7 +62,7 @@ pub accepted-parted : (sky least i : ℕ) (rs : List Range) → (rangesRefusal s
 accepted-parted sky least i rs = (passed-parted sky least i rs, parted-passes sky least i rs)
 
 -- ---- the first faulty range
--- the range at place i doesn't start above the previous end; the first may start at `least` or after
+-- the range at place i doesn't start above the previous end; the first may start at `least` or after, and below 0 none starts
 abbrev pub NotAbove : ℕ → List Range → ℕ → Type 0
 NotAbove least rs zero = getD rs zero (range 0 0) .from < least
 NotAbove least rs (suc i) = getD rs (suc i) (range 0 0) .from ≤ getD rs i (range 0 0) .to

@@ -7,3 +7,4 @@ pub mod Widths
 pub mod Joining
 pub mod Writing
 pub mod Call
+pub mod Laws

@@ -2,13 +2,13 @@
 use mathlib.Core.Path.{_≡_}
 use mathlib.Core.Bool.{true}
 use mathlib.Core.List.{List, [], _∷_, map}
-use mathlib.Core.Logic.{_⊎_}
+use mathlib.Core.Logic.{_⊎_, _↔_}
 use Prim.Native.Nat.{ℕ, _+_, _≤_, _<_}
 use lib.ListN.{length, getD, take}
-use Rattle.zuniq.specs.Cells.{liesIn, start, end}
+use Rattle.zuniq.specs.Cells.{nHash, liesIn, start, end}
 use Rattle.zuniq.specs.Codec.{IsZuniqOf}
 use Rattle.mom.specs.Map.{IsZuniq}
-use Rattle.coverage.specs.Ranges.{Range, fromOf, toOf}
+use Rattle.coverage.specs.Ranges.{Range, rangesOf, fromOf, toOf}
 
 -- ---- ranges
 -- k is in the range
@@ -60,6 +60,13 @@ pub record InEntry (K : ℕ) (zs : List ℕ) (k : ℕ) : Type 0 where
   pub hash : ℕ
   pub is : IsZuniqOf K (getD zs place 0) depth hash
   pub inside : liesIn K k depth hash ≡ true
+
+-- What is shown of every call that writes a coverage: it answered n ranges, and left xs and ys in the output. They hold exactly those
+-- cells, as rising ranges, none empty and none touching the next, and there are at most as many as entries.
+pub record WritesCoverage (zs : List ℕ) (n : ℕ) (xs ys : List ℕ) : Type 0 where
+  pub exact : (k : ℕ) → InRanges (rangesOf (take n xs) (take n ys)) k ↔ InEntry 29 zs k
+  pub parted : Parted 0 (nHash 29) (rangesOf (take n xs) (take n ys))
+  pub fewer : n ≤ length zs
 
 -- ---- the functions
 -- z is the zuniq of a cell whose depth-K cells are those from a to below b

@@ -43,7 +43,9 @@ count-ranges-requires : tie.Need-count-ranges-requires
 count-ranges-requires c κs = accepted c .valid .valid
 
 returns-2 : tie.Need-returns-2
-returns-2 c = call-no-space _ _ _ _ (accepted (c .before .before)) _ (c .before .count-ranges .ensures) (c .if1 .taken)
+returns-2 c =
+    let a = start (c .before .before) .args in
+    call-no-space (a .depth) (a .zuniqs .now) (a .starts .now) (a .ends .now) (accepted (c .before .before)) (c .before .count-ranges .result) (c .before .count-ranges .ensures) (c .if1 .taken)
 
 returns-3 : tie.Need-returns-3
 returns-3 c =

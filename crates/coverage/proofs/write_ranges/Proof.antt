@@ -2,7 +2,6 @@
 -- stand in the first places of the buffers. Assumes nothing.
 use mathlib.Core.Logic.{⊎-elim}
 use Prim.Native.Nat.{_-_, _≤_, _<_}
-use native.Mathlib.Omega.{arith}
 use lib.ListN.{length}
 use Rattle.coverage.proofs.Writing.{Writing, as-written, writing-start, writing-end, writing-same, writing-new, writing-place, writing-room}
 use borrow.Author.Needs.{needs}
