@@ -8,7 +8,6 @@ use Prim.Native.Nat.{ℕ, _-_, _≤_}
 use native.Mathlib.Omega.{arith}
 use lib.Ieee.{Float}
 use lib.ListN.{length, take, replicate, length-map}
-use lib.Seq.{take-append-seam}
 use borrow.Author.Tests.{le-ltb, eq-eqb}
 use Rattle.refusal.specs.declared.Refusal.{Refusal}
 use Rattle.zuniq.specs.Cells.{nHash}
@@ -31,6 +30,7 @@ use Rattle.coverage.specs.Coverage.{coverageOf}
 use Rattle.coverage.specs.Promises.{Parted}
 use Rattle.coverage.proofs.Given.{accepted-parted}
 use Rattle.coverage.proofs.Exact.{coverage-parted}
+use Rattle.coverage.proofs.Laws.{ranges-again, front}
 use Rattle.clip.specs.declared.Clipped.{Clipped}
 use Rattle.clip.specs.Clip.{clipped}
 use Rattle.clip.specs.Promises.{Clips}
@@ -55,11 +55,6 @@ pub cover-of-map : {A : Type 0} (D : ℕ) (zs : List ℕ) (vs : List A) → leng
 cover-of-map D zs vs n v = ap (coverageOf 29) (laid-again D 0 zs vs n (valid-rises 29 D zs v) .0)
 
 -- ---- every call
--- The cells stand in the first places.
-front : {B : Type 0} (x : B) (places : ℕ) (l : List B) → take (length l) (padded x places l) ≡ l
-unfolding padded
-front x places l = take-append-seam l _
-
 -- the number that is answered
 abbrev cellsIn : Clipped → ℕ
 cellsIn (Clipped.Cells n) = n
@@ -98,13 +93,7 @@ module _ (m : Given Float) (ss es : List ℕ) (zs : List ℕ) (vs : List Float) 
         reach = ap (coverageOf 29) xs-is ∙ clip-coverage 29 (entries m) rising (rangesOf ss es) (p .parted) ∙ rw (cover-of-map (m .depth) (m .zuniqs) (m .values) (p .holds .paired) (p .valid)) refl;
       }
 
--- ---- a coverage in two buffers
--- Ranges are read back from the buffers that they were written to.
-ranges-again : (rs : List Range) → rangesOf (map fromOf rs) (map toOf rs) ≡ rs
-unfolding rangesOf
-ranges-again [] = refl
-ranges-again (r ∷ rs) = ap (λ (t : List Range). r ∷ t) (ranges-again rs)
-
+-- ---- a given coverage
 -- a map that rows 1, 4, 5 and 6 don't apply to
 pub record Good (m : Given Float) : Type 0 where
   pub deep : m .depth ≤ 29
