@@ -2,4 +2,4 @@
 use Prim.Native.Nat.{ℕ}
 
 abbrev pub kinds : ℕ
-kinds = 33
+kinds = 35

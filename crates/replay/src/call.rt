@@ -29,6 +29,9 @@
 //     widen D ZUNIQS COUNTS ZUNIQS COUNTS           D ENTRIES ZUNIQS COUNTS
 //     rows_to_columns LENGTH BYTES BYTES            ROWS BYTES
 //     columns_to_rows LENGTH BYTES BYTES            ROWS BYTES
+//     coverage D ZUNIQS STARTS ENDS                 RANGES STARTS ENDS
+//     clip D ZUNIQS DENSITIES STARTS ENDS ZUNIQS DENSITIES
+//                                                   CELLS ZUNIQS DENSITIES
 //
 // The calls on narrow maps, `narrow_to_zuniq` and so on, take and answer what those without `narrow_`
 // do, and `read_narrow_rows` and `write_narrow_rows` what those of count rows do. Their zuniqs and hashes
@@ -72,5 +75,7 @@ pub(crate) fn call(kind: Kind, numbers: &[u64]) -> Answer {
         Kind::Widen => crate::widths::widen(numbers),
         Kind::RowsToColumns => crate::layouts::rows_to_columns(numbers),
         Kind::ColumnsToRows => crate::layouts::columns_to_rows(numbers),
+        Kind::Coverage => crate::reach::coverage(numbers),
+        Kind::Clip => crate::reach::clip(numbers),
     }
 }

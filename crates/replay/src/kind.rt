@@ -41,6 +41,8 @@ pub enum Kind {
     Widen,
     RowsToColumns,
     ColumnsToRows,
+    Coverage,
+    Clip,
 }
 
 // What a word names.
@@ -49,7 +51,7 @@ pub enum Named {
     Nothing,
 }
 
-pub const KINDS: usize = 33;
+pub const KINDS: usize = 35;
 
 impl Kind {
     // The kind's place in an array with one for each kind.
@@ -90,6 +92,8 @@ impl Kind {
             Kind::Widen => 30,
             Kind::RowsToColumns => 31,
             Kind::ColumnsToRows => 32,
+            Kind::Coverage => 33,
+            Kind::Clip => 34,
         }
     }
 
@@ -128,7 +132,9 @@ impl Kind {
             29 => Kind::Narrow,
             30 => Kind::Widen,
             31 => Kind::RowsToColumns,
-            _ => Kind::ColumnsToRows,
+            32 => Kind::ColumnsToRows,
+            33 => Kind::Coverage,
+            _ => Kind::Clip,
         }
     }
 
@@ -168,6 +174,8 @@ impl Kind {
             Kind::Widen => *b"widen                       ",
             Kind::RowsToColumns => *b"rows_to_columns             ",
             Kind::ColumnsToRows => *b"columns_to_rows             ",
+            Kind::Coverage => *b"coverage                    ",
+            Kind::Clip => *b"clip                        ",
         }
     }
 

@@ -40,6 +40,7 @@ mod narrow_overlapped;
 mod narrow_rows;
 mod overlapped;
 mod print;
+mod reach;
 mod reading;
 mod tally;
 mod widths;
