@@ -11,7 +11,7 @@ use lib.ListN.{length, getD, take, drop, set, length-append, length-set, drop-of
 use lib.Seq.{drop-cons, take-suc-set}
 use Rattle.zuniq.specs.Cells.{nHash, start, end}
 use Rattle.zuniq.proofs.Codec.{cell, decodes}
-use Rattle.zuniq.proofs.Ranges.{start-lt-end, zuniq-is-middle}
+use Rattle.zuniq.proofs.Ranges.{lies-in-iff, lies-in-iff-within, start-lt-end, zuniq-is-middle}
 use Rattle.build.specs.Map.{Entry, entry}
 use Rattle.build.specs.Buffers.{zuniqOf, valueOf}
 use Rattle.build.specs.Promises.{Has, startOf, endOf, Rises}
@@ -144,6 +144,43 @@ module _ (pass : Pass) (n a b : ℕ) (v : Float) (zs₀ : List ℕ) (vs₀ : Lis
         values = lv ∙ s .values;
       }
 
+-- ---- a piece
+-- It lies in a base cell, and in the sky.
+pub piece-within : (z a b s t : ℕ) → RangeOf 29 z a b → t ≤ nHash 29 → (min b t ≤ nHash 29) × (min b t ≤ max a s + 4 ^ 29)
+piece-within z a b s t x u =
+    let w : end 29 (x .depth) (x .hash) ≤ start 29 (x .depth) (x .hash) + 4 ^ 29 = width-le 29 (x .depth) (x .hash) in
+    (omega arith, omega (arith, x .starts, x .ends))
+
+-- ---- an entry that lies in a range as a whole
+module _ (pass : Pass) (n z a b s t : ℕ) (v : Float) (zs : List ℕ) (vs : List Float) (x : RangeOf 29 z a b) (from : s ≤ a) (to : b ≤ t) where
+  abbrev itself : Entry Float
+  itself = entry (x .depth) (x .hash) v
+
+  itself-largest : LargestAt 29 (max a s) (min b t) (x .depth) (x .hash)
+  itself-largest = record {
+    deep = x .is .deep;
+    starts = omega (arith, x .starts);
+    ends = omega (arith, x .ends);
+    greatest = λ e g u c d. lies-in-iff e g (x .depth) (x .hash) .0 (lies-in-iff-within 29 e g (x .depth) (x .hash) u (x .is .deep) .1 (omega (arith, x .starts), omega (arith, x .ends))) .0;
+  }
+
+  itself-cut : Cut 29 (max a s) (min b t) v (endOf 29 itself) (itself ∷ [])
+  itself-cut = (itself-largest, refl, refl)
+
+  pub can-keep-whole : CanCut pass n (max a s) (min b t) v zs vs → CanKeep pass n zs vs
+  can-keep-whole can = can-keep pass n n [] itself zs vs zs vs (omega arith) refl refl (can (endOf 29 itself) (itself ∷ []) itself-cut)
+
+  -- It is cut into itself.
+  pub whole-cut : CanCut pass n (max a s) (min b t) v zs vs → (zs′ : List ℕ) (vs′ : List Float) (r : ℕ) → r ≡ n + 1 → Kept pass n z v zs vs zs′ vs′ → IsCut pass n (max a s) (min b t) v zs vs r zs′ vs′
+  whole-cut can zs′ vs′ r k h = record {
+    cells = itself ∷ [];
+    place = endOf 29 itself;
+    cut = itself-cut;
+    done = omega (arith, x .ends);
+    number = omega arith;
+    outcome = outcome-more pass n n [] itself z v zs vs zs vs zs′ vs′ (omega arith) (x .is .is) refl (can-keep-whole can) (outcome-none pass n zs vs) h;
+  }
+
 -- ---- the walk
 -- A rising list whose entries are all entries of another is no longer than that.
 rises-sub : {A : Type 0} (K a b c d : ℕ) (l m : List (Entry A)) → Rises K a b l → Rises K c d m → ((e : Entry A) → Has l e → Has m e) → length l ≤ length m
@@ -260,12 +297,9 @@ module _ (mz : List ℕ) (mv : List Float) (ss es : List ℕ) where
         to-is : min (endOf 29 e) (r .to) ≡ to
         to-is = rw (t-is, x .ends) refl
 
-        -- The piece lies in a base cell, and in the sky.
-        pub piece-within : (to ≤ nHash 29) × (to ≤ from + 4 ^ 29)
-        piece-within = (omega (arith, parted₂ .2), omega (arith, f-is, t-is, x .starts, x .ends, entry-width))
-          where
-            entry-width : endOf 29 e ≤ startOf 29 e + 4 ^ 29
-            entry-width = width-le 29 (x .depth) (x .hash)
+        -- The range ends in the sky.
+        pub range-within : getD es j 0 ≤ nHash 29
+        range-within = parted₂ .2
 
         -- What is cut so far, behind the cells before it.
         cut-so-far : (q : ℕ) (cells : List (Entry Float)) → Cut 29 from to (getD mv i nan) q cells

@@ -20,7 +20,7 @@ ghost use Rattle.build.specs.Add.{checkOf};
 ghost use Rattle.combine.specs.Pool.{Given};
 ghost use Rattle.combine.specs.Slices.{Holds};
 ghost use Rattle.coverage.specs.Ranges.{rangesOf};
-ghost use Rattle.coverage.specs.Promises.{Parted};
+ghost use Rattle.coverage.specs.Promises.{Parted, RangeOf};
 ghost use Rattle.clip.specs.Call.{clippedOf, clipInputRefusal, clipCall, firstOf};
 ghost use Rattle.clip.specs.Passes.{Outcome, Room, LargestWidth, CanCut, IsCut, CanKeep, Kept};
 use build::Check;
@@ -29,6 +29,7 @@ use build::free::clear_densities;
 use build::free::clear_zuniqs;
 use build_densities::check_densities;
 use combine::check_pairs;
+use coverage::HashRange;
 use coverage::check_ranges;
 use coverage::entry_range;
 use refusal::Refusal;
@@ -161,17 +162,52 @@ fn walk(
         if j >= starts.len() {
             return n;
         }
-        let range = entry_range(map_zuniqs[i]);
-        let from = larger(range.start, starts[j]);
-        let to = smaller(range.end, ends[j]);
-        n = cut(from, to, map_densities[i], pass, zuniqs, densities, n);
-        if range.end <= ends[j] {
+        let zuniq = map_zuniqs[i];
+        let cell = entry_range(zuniq);
+        let range = HashRange {
+            start: starts[j],
+            end: ends[j],
+        };
+        n = clip_entry(
+            zuniq,
+            cell,
+            range,
+            map_densities[i],
+            pass,
+            zuniqs,
+            densities,
+            n,
+        );
+        if cell.end <= range.end {
             i += 1;
         } else {
             j += 1;
         }
     }
     n
+}
+
+// Cuts what an entry and a range of the coverage have in common. Most entries lie in a range as a whole,
+// or in none: those are one cell, or nothing.
+fn clip_entry(
+    zuniq: u64,
+    cell: HashRange,
+    range: HashRange,
+    density: f64,
+    pass: Pass,
+    zuniqs: &mut [u64],
+    densities: &mut [f64],
+    n: usize,
+) -> usize
+    requires { ⌜ RangeOf 29 «zuniq» (cell .start) (cell .end) × (range .end ≤ nHash 29) × CanCut pass n (max (cell .start) (range .start)) (min (cell .end) (range .end)) density (now zuniqs) (now densities) ⌝ }
+    ensures { λ r. ⌜ IsCut pass n (max (cell .start) (range .start)) (min (cell .end) (range .end)) density (now (zuniqs .entry)) (now (densities .entry)) r (now (zuniqs .exit)) (now (densities .exit)) ⌝ }
+{
+    if range.start <= cell.start && cell.end <= range.end {
+        return keep(pass, zuniq, density, zuniqs, densities, n);
+    }
+    let from = larger(cell.start, range.start);
+    let to = smaller(cell.end, range.end);
+    cut(from, to, density, pass, zuniqs, densities, n)
 }
 
 // Cuts a piece of the sky, which lies in an entry, from the left into the largest cells that fit. Each has
