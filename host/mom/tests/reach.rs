@@ -48,7 +48,10 @@ impl Cover {
             assert_eq!((starts, ends), (vec![5; of_starts], vec![6; of_ends]));
             return Err(answer.unwrap_err());
         };
-        assert!(starts[ranges..].iter().chain(&ends[ranges..]).all(|&x| x == 0));
+        assert!(starts[ranges..]
+            .iter()
+            .chain(&ends[ranges..])
+            .all(|&x| x == 0));
         Ok(starts.into_iter().zip(ends).take(ranges).collect())
     }
 }
@@ -65,7 +68,11 @@ fn assert_covers(depth: u8, cells: &[Cell], ranges: &[Range]) {
         assert_eq!(call(places).answer().as_deref(), Ok(ranges), "{cells:?}");
     }
     if number > 0 {
-        assert_eq!(call(number - 1).answer(), Err(Refusal::NoSpace), "{cells:?}");
+        assert_eq!(
+            call(number - 1).answer(),
+            Err(Refusal::NoSpace),
+            "{cells:?}"
+        );
     }
 }
 
@@ -87,7 +94,11 @@ fn no_neighbours_have_two_ranges() {
         for first in [0, 1, 2, 3, 4, last / 2, last - 1] {
             let (start, _) = range((depth, first));
             let (_, end) = range((depth, first + 1));
-            assert_covers(depth, &[(depth, first), (depth, first + 1)], &[(start, end)]);
+            assert_covers(
+                depth,
+                &[(depth, first), (depth, first + 1)],
+                &[(start, end)],
+            );
             assert_covers(29, &[(depth, first)], &[range((depth, first))]);
         }
         // The deep entry ends where the base cell starts, and the other way round.
@@ -130,14 +141,14 @@ const AREAS: [u64; 3] = [0, 16 * 999_999, SKY - 16];
 /// A cell of such an area, and the bits of its hashes.
 fn of_area(first: u64, (depth, place): Cell) -> (Cell, u32) {
     let width = 4u64.pow((29 - depth) as u32);
-    let mask = (1 << width) - 1 << (place * width);
+    let mask = ((1 << width) - 1) << (place * width);
     ((depth, first / width + place), mask)
 }
 
-/// All maps of an area: whole, or for each quarter nothing, the quarter itself, or some of its cells. As
-/// cells with their bits.
-fn maps_of(first: u64) -> Vec<Vec<(Cell, u32)>> {
-    let quarter = |place: u64, way: u64| -> Vec<(Cell, u32)> {
+/// All maps of an area, as cells with their bits: whole, or for each quarter nothing, the quarter itself or
+/// some of its cells. A third of them at each place.
+fn maps() -> impl Iterator<Item = (u64, Vec<(Cell, u32)>)> {
+    let quarter = |first: u64, place: u64, way: u64| -> Vec<(Cell, u32)> {
         match way {
             16 => vec![of_area(first, (28, place))],
             some => (0..4)
@@ -146,31 +157,38 @@ fn maps_of(first: u64) -> Vec<Vec<(Cell, u32)>> {
                 .collect(),
         }
     };
-    let parts = (0..17u64.pow(4)).map(|way| {
+    let parts = (0..17u64.pow(4)).map(move |way| {
+        let first = AREAS[way as usize % 3];
         let ways = [way % 17, way / 17 % 17, way / 289 % 17, way / 4913];
         let quarters = ways.into_iter().zip(0..);
-        quarters.flat_map(|(way, place)| quarter(place, way)).collect()
+        let cells = quarters.flat_map(|(way, place)| quarter(first, place, way));
+        (first, cells.collect())
     });
-    [vec![of_area(first, (27, 0))]].into_iter().chain(parts).collect()
+    let whole = AREAS.map(|first| (first, vec![of_area(first, (27, 0))]));
+    whole.into_iter().chain(parts)
 }
 
 fn mask_of(map: &[(Cell, u32)]) -> u32 {
     map.iter().map(|(_, mask)| mask).sum()
 }
 
+/// The cells with their places as densities.
+fn numbered(map: &[(Cell, u32)]) -> Vec<(Cell, f64)> {
+    let cells = map.iter().map(|&(cell, _)| cell);
+    cells.zip((0u8..).map(f64::from)).collect()
+}
+
 #[test]
 fn no_small_map_has_another_coverage() {
-    for first in AREAS {
-        for map in maps_of(first) {
-            let cells: Vec<Cell> = map.iter().map(|&(cell, _)| cell).collect();
-            let call = Cover {
-                depth: 29,
-                zuniqs: zuniqs(&cells),
-                places: [cells.len(); 2],
-            };
-            let ranges = runs(mask_of(&map), first);
-            assert_eq!(call.answer(), Ok(ranges), "{cells:?}");
-        }
+    for (first, map) in maps() {
+        let cells: Vec<Cell> = map.iter().map(|&(cell, _)| cell).collect();
+        let call = Cover {
+            depth: 29,
+            zuniqs: zuniqs(&cells),
+            places: [cells.len(); 2],
+        };
+        let ranges = runs(mask_of(&map), first);
+        assert_eq!(call.answer(), Ok(ranges), "{cells:?}");
     }
 }
 
@@ -205,7 +223,15 @@ impl Clip {
         let [of_zuniqs, of_densities] = self.places;
         let (mut z, mut m) = (vec![5; of_zuniqs], vec![5.5; of_densities]);
         let (map, densities) = (&self.zuniqs, &self.densities);
-        let answer = clip(self.depth, map, densities, &self.starts, &self.ends, &mut z, &mut m);
+        let answer = clip(
+            self.depth,
+            map,
+            densities,
+            &self.starts,
+            &self.ends,
+            &mut z,
+            &mut m,
+        );
         let Ok(cells) = answer else {
             assert_eq!((z, m), (vec![5; of_zuniqs], vec![5.5; of_densities]));
             return Err(answer.unwrap_err());
@@ -300,9 +326,9 @@ fn no_siblings_are_merged() {
     }
 }
 
-/// Every cell of every depth that lies in one entry and in the coverage is there, or an ancestor is.
+/// An entry of every depth, and a range that is a cell of any depth in it; and the other way round.
 #[test]
-fn no_entry_is_left_larger_than_the_coverage_or_cut_where_it_needs_none() {
+fn no_cell_is_left_larger_than_the_coverage_or_smaller_than_both() {
     for top in 0..=29 {
         for depth in top..=29 {
             for path in [0, u64::MAX, 0x1b1b_1b1b_1b1b_1b1b] {
@@ -310,7 +336,6 @@ fn no_entry_is_left_larger_than_the_coverage_or_cut_where_it_needs_none() {
                 let shift = 2 * (depth - top);
                 let cell = (depth, entry.1 << shift | path & ((1 << shift) - 1));
                 let map = of_density(0.25, &[entry]);
-                // The whole entry, and one cell of it.
                 assert_clips(top, &map, &[range(entry)], &map);
                 let cells = of_density(0.25, &[cell]);
                 assert_clips(top, &map, &[range(cell)], &cells);
@@ -346,8 +371,7 @@ fn defined(first: u64, map: &[(Cell, u32)], reach: u32) -> Vec<Entry> {
 /// A clip of a map of an area to the coverage of those bits, held to the definition. Its own coverage is
 /// the intersection.
 fn assert_defined(first: u64, map: &[(Cell, u32)], reach: u32) {
-    let entries: Vec<(Cell, f64)> = map.iter().map(|entry| entry.0).zip(0u8..).map(|(cell, place)| (cell, place as f64)).collect();
-    let call = Clip::new(29, &entries, &runs(reach, first), 17);
+    let call = Clip::new(29, &numbered(map), &runs(reach, first), 17);
     let cells = defined(first, map, reach);
     assert_eq!(call.answer().as_ref(), Ok(&cells), "{map:?} {reach:016b}");
     let cover = Cover {
@@ -359,46 +383,38 @@ fn assert_defined(first: u64, map: &[(Cell, u32)], reach: u32) {
     assert_eq!(cover.answer(), Ok(common), "{map:?} {reach:016b}");
 }
 
-/// All coverages of an area, of a map that is one cell, of one that is its quarters, and of one with
-/// entries of both depths and gaps.
+/// All coverages of an area: of a map that is one cell, of one that is its quarters, and of one with
+/// entries of both depths and a gap.
 #[test]
 fn no_small_coverage_clips_otherwise() {
-    for first in AREAS {
-        let area = |cells: &[Cell]| -> Vec<(Cell, u32)> {
-            cells.iter().map(|&cell| of_area(first, cell)).collect()
-        };
-        let maps = [
-            area(&[(27, 0)]),
-            area(&[(28, 0), (28, 1), (28, 2), (28, 3)]),
-            area(&[(28, 0), (29, 5), (29, 6), (29, 7), (28, 3)]),
-        ];
-        for map in maps {
-            for reach in 0..1 << 16 {
-                assert_defined(first, &map, reach);
-            }
+    let maps: [&[Cell]; 3] = [
+        &[(27, 0)],
+        &[(28, 0), (28, 1), (28, 2), (28, 3)],
+        &[(28, 0), (29, 5), (29, 6), (29, 7), (28, 3)],
+    ];
+    for (first, cells) in AREAS.into_iter().zip(maps) {
+        let map: Vec<(Cell, u32)> = cells.iter().map(|&cell| of_area(first, cell)).collect();
+        for reach in 0..1 << 16 {
+            assert_defined(first, &map, reach);
         }
     }
 }
 
-/// All maps of an area, clipped to a few coverages, and to their own: that gives their entries back.
+/// All maps of an area, clipped to one of a few coverages and to their own, which gives their entries back.
 #[test]
 fn no_small_map_is_clipped_otherwise_or_changed_by_its_own_coverage() {
-    for first in AREAS {
-        for map in maps_of(first) {
-            for reach in [0xffff, 0x0ff0, 0x7ffe, 0x8421, 0xf137] {
-                assert_defined(first, &map, reach);
-            }
-            let own = mask_of(&map);
-            assert_defined(first, &map, own);
-            let entries = map.iter().map(|entry| entry.0).zip(0u8..);
-            let entries: Vec<_> = entries.map(|(cell, place)| (cell, place as f64)).collect();
-            let call = Clip::new(29, &entries, &runs(own, first), entries.len());
-            assert_eq!(call.answer(), Ok(bits(&entries)));
-        }
+    let reaches = [0xffff, 0x0ff0, 0x7ffe, 0x8421, 0xf137, 0x0001, 0x5a5a];
+    for ((first, map), reach) in maps().zip(reaches.into_iter().cycle()) {
+        assert_defined(first, &map, reach);
+        let entries = numbered(&map);
+        let own = runs(mask_of(&map), first);
+        let call = Clip::new(29, &entries, &own, entries.len());
+        assert_eq!(call.answer(), Ok(bits(&entries)));
     }
 }
 
-/// Entries of all depths: the first children of the last cells of each depth, and something in front.
+/// The first cell of one depth; then for every depth the first child of the last cell above it. No two
+/// touch.
 fn all_depths(first: u8) -> Vec<Cell> {
     let last_above = |d: u8| 12 * 4u64.pow(d as u32 - 1) - 1;
     let children = (1..=29).map(|d| (d, 4 * last_above(d)));
@@ -416,7 +432,7 @@ fn no_map_is_changed_by_its_own_coverage() {
             places: [30; 2],
         };
         let own = call.answer().unwrap();
-        // No two of these touch but the last: each is followed by the rest of its parent.
+        assert_eq!(own.len(), 30);
         assert_clips(29, &map, &own, &map);
         assert_clips(29, &map, &[(0, SKY)], &map);
     }
@@ -566,7 +582,9 @@ fn no_range_that_is_none_is_accepted() {
     }
     for place in 1..3 {
         assert_not_clipped(14, place, |call| call.starts[place] = call.ends[place - 1]);
-        assert_not_clipped(14, place, |call| call.starts[place] = call.ends[place - 1] - 1);
+        assert_not_clipped(14, place, |call| {
+            call.starts[place] = call.ends[place - 1] - 1
+        });
         assert_not_clipped(14, place, |call| call.starts[place] = 0);
     }
     // The end of the first is past the start of the second, which isn't wrong by itself.
