@@ -21,7 +21,7 @@ const WHOLE_SKY: Range<u64> = 0..SKY;
 const FEW: u64 = 256;
 
 /// Two buffers that are paired, or should be.
-#[derive(Clone, Debug, Default, PartialEq, Eq, PartialOrd, Ord)]
+#[derive(Clone, Debug, PartialEq, Eq, PartialOrd, Ord)]
 pub struct Coverage {
     pub starts: Vec<u64>,
     pub ends: Vec<u64>,
@@ -240,8 +240,8 @@ fn moved(random: &mut Random, ranges: &[Range<u64>]) -> Vec<u64> {
     bounds
 }
 
-/// A map of twelve cells of depth 27 and below, or of one cell over them all, and bounds among their
-/// hashes.
+/// A map of twelve cells of depth 27 and below, or of one cell over the first of them, and bounds among
+/// their hashes.
 fn few_hashes(random: &mut Random) -> (Vec<Cell>, Vec<u64>) {
     let top = DEPTH_MAX - 2;
     let first = match random.below(4) {

@@ -499,7 +499,7 @@ impl Draw {
     }
 
     /// Entries in that area, or now and then one over all of it.
-    fn small_map(&mut self, (depth, hash): Cell) -> Vec<u64> {
+    fn small_entries(&mut self, (depth, hash): Cell) -> Vec<u64> {
         if self.one_in(4) {
             let up = self.below(depth as usize + 1) as u8;
             return vec![zuniq_of(depth - up, hash >> (2 * up))];
@@ -516,12 +516,8 @@ impl Draw {
     fn small_bounds(&mut self, area: Cell) -> Vec<u64> {
         let inside = hashes(area);
         let few = [2, 4, 16][self.below(3)];
-        let near = inside.start.saturating_sub(3)..(inside.end + 3).min(SKY);
-        let mut bounds: Vec<u64> = near.filter(|_| self.one_in(few)).collect();
-        if self.one_in(4) {
-            bounds.extend([inside.start, inside.end]);
-        }
-        bounds
+        let near = inside.start.saturating_sub(3)..=(inside.end + 3).min(SKY);
+        near.filter(|_| self.one_in(few)).collect()
     }
 
     /// Bounds at the ends of entries, near them, and elsewhere.
@@ -555,18 +551,7 @@ impl Draw {
         let (mut starts, mut ends): (Vec<u64>, Vec<u64>) =
             ranges.map(|range| (range[0], range[1])).unzip();
         if !starts.is_empty() && self.one_in(5) {
-            let place = self.below(starts.len());
-            let before = ends[place.saturating_sub(1)];
-            match self.below(8) {
-                0 => ends[place] = starts[place],
-                1 => ends[place] = ends[place].saturating_sub(self.below(9) as u64),
-                2 => ends[place] = SKY + self.below(3) as u64,
-                3 => ends[place] = self.few_bits(),
-                4 => starts[place] = before,
-                5 => starts[place] = before.saturating_sub(self.below(9) as u64),
-                6 => starts[place] = self.few_bits(),
-                _ => starts.swap(0, place),
-            }
+            self.spoil_range(&mut starts, &mut ends);
         }
         if self.one_in(32) {
             starts.push(SKY);
@@ -574,40 +559,53 @@ impl Draw {
         (starts, ends)
     }
 
-    /// A map, now and then of few depth-29 cells.
-    pub fn covered(&mut self) -> Side<u64> {
-        if self.one_in(2) {
-            let area = self.small_area();
-            let zuniqs = self.small_map(area);
-            let depth = self.small_depth();
-            return self.spoilt(depth, zuniqs);
+    fn spoil_range(&mut self, starts: &mut [u64], ends: &mut [u64]) {
+        let place = self.below(starts.len());
+        let before = ends[place.saturating_sub(1)];
+        let some = self.below(9) as u64;
+        match self.below(8) {
+            0 => ends[place] = starts[place],
+            1 => ends[place] = ends[place].saturating_sub(some),
+            2 => ends[place] = SKY + some,
+            3 => ends[place] = self.few_bits(),
+            4 => starts[place] = before,
+            5 => starts[place] = before.saturating_sub(some),
+            6 => starts[place] = self.few_bits(),
+            _ => starts.swap(0, place),
         }
-        let way = self.below(SKY as usize) as u64;
-        self.combined(way)
     }
 
-    /// Mostly 29, which entries of few depth-29 cells ask for.
-    fn small_depth(&mut self) -> u8 {
-        match self.below(16) {
+    /// A map of that area, mostly of depth 29, and bounds there.
+    fn small_map(&mut self) -> (Side<u64>, Vec<u64>) {
+        let area = self.small_area();
+        let zuniqs = self.small_entries(area);
+        let depth = match self.below(16) {
             0 => self.depth::<u64>(),
             _ => 29,
-        }
+        };
+        (self.spoilt(depth, zuniqs), self.small_bounds(area))
     }
 
-    /// A map and ranges, both of few depth-29 cells or both of any; now and then the map's own ranges, or
-    /// none.
+    /// A map and bounds about it, both of few depth-29 cells or both of any.
+    fn bounded_map(&mut self) -> (Side<u64>, Vec<u64>) {
+        if self.one_in(2) {
+            return self.small_map();
+        }
+        let way = self.below(SKY as usize) as u64;
+        let map = self.combined(way);
+        let bounds = self.bounds(&map.zuniqs);
+        (map, bounds)
+    }
+
+    /// A map to be covered.
+    pub fn covered(&mut self) -> Side<u64> {
+        let (map, _) = self.bounded_map();
+        map
+    }
+
+    /// A map and ranges; now and then the map's own ranges, or none.
     pub fn clip_call(&mut self) -> ClipCall {
-        let (map, bounds) = if self.one_in(2) {
-            let area = self.small_area();
-            let zuniqs = self.small_map(area);
-            let depth = self.small_depth();
-            (self.spoilt(depth, zuniqs), self.small_bounds(area))
-        } else {
-            let way = self.below(SKY as usize) as u64;
-            let map = self.combined(way);
-            let bounds = self.bounds(&map.zuniqs);
-            (map, bounds)
-        };
+        let (map, bounds) = self.bounded_map();
         let bounds = match self.below(16) {
             0 => vec![],
             1 => own_bounds(&map.zuniqs),
