@@ -136,9 +136,9 @@ mombuild_tests() {
         cargo test --quiet --no-fail-fast -- --nocapture
 }
 
-# Sixteen tests, each for a sixteenth of the time.
+# Eighteen tests, each for an eighteenth of the time.
 fuzz() {
-    cd mom && MOM_FUZZ_SECONDS=$(((seconds + 15) / 16)) \
+    cd mom && MOM_FUZZ_SECONDS=$(((seconds + 17) / 18)) \
         cargo test --quiet --release --test fuzz -- --nocapture
 }
 

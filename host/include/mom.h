@@ -1,8 +1,9 @@
 /* The C functions of libmom_c.a: rows and the check and lookup of maps that come as rows, which an
  * ingest process calls; then cells of multi-order maps, their zuniqs, the mergers, the check and
  * lookup of a map's zuniqs, building from counts and from densities, and combining maps; then
- * narrow maps, which dome boxes keep, and moving maps between the two widths; last, rows laid out by
- * byte column, for disks.
+ * narrow maps, which dome boxes keep, and moving maps between the two widths; then rows laid out by
+ * byte column, for disks; last, the area that observers can reach: the coverage of a map, and a map
+ * clipped to a coverage.
  *
  * A cell is a depth d, 0 to 29, and a hash h below N(d) = 12 * 4^d (HEALPix, nested). Its zuniq is
  * (2h + 1) * 4^(29 - d), a u64; no other u64 is a valid zuniq. The four cells that it consists of
@@ -23,6 +24,11 @@
  * A map of depth D is given by its zuniqs. It is valid where each is a valid zuniq, none is of a
  * cell deeper than D, they rise strictly and no two of their cells overlap. A narrow map is one of
  * narrow zuniqs.
+ *
+ * A coverage is a part of the sky as ranges of hashes of depth 29, in two paired buffers (MOC 2.0): a
+ * range holds the hashes from its start to below its end. It is valid where no range is empty or ends
+ * past N(29), and each starts above the end of the one before, so that no two touch. A cell lies inside
+ * a coverage where all its cells of depth 29 do.
  *
  * As bytes a map is rows, one for each entry: the zuniq in 8 bytes, then the count in 4 or the
  * density in 8, each little-endian, with nothing between rows. A density is handed over as its
@@ -83,6 +89,7 @@ extern "C" {
 #define MOM_NO_SPACE 11
 #define MOM_NOT_A_ZUNIQ 12
 #define MOM_ENTRY_TOO_DEEP 13
+#define MOM_INVALID_RANGE 14
 
 /* The code of an answer: MOM_ACCEPTED, a refusal's number, MOM_NONE, MOM_KEPT or a fault. */
 static inline uint8_t mom_code(uint64_t word) { return (uint8_t)(word >> 56); }
@@ -393,6 +400,31 @@ uint64_t mom_rows_to_columns(size_t row_size, const uint8_t *rows, size_t rl, ui
  * Refuses by 4: row_size is none of these, or cl is no multiple of it; then by 11: rl is below cl. */
 uint64_t mom_columns_to_rows(size_t row_size, const uint8_t *columns, size_t cl, uint8_t *rows,
                              size_t rl);
+
+/* ---- The area that observers can reach */
+
+/* Writes the coverage of a map of that depth into starts and ends, which may hold anything: exactly the
+ * cells of depth 29 that lie in an entry, as rising ranges of which none touches the next, so that
+ * neighbouring entries share a range. The value is the number of ranges, which is at most zl; every
+ * place after them is 0. By a refusal both buffers are left as they were.
+ * Refuses by 1: the depth is over 29; then by 4: sl isn't el; then by 5: the zuniqs are no valid map of
+ * that depth, the place is the faulty entry; then by 11: sl is below the number of ranges. */
+uint64_t mom_coverage(uint8_t depth, const uint64_t *zuniqs, size_t zl, uint64_t *starts, size_t sl,
+                      uint64_t *ends, size_t el);
+
+/* Clips a density map of that depth to the coverage in starts and ends, into zuniqs and densities,
+ * which may hold anything: every cell that lies inside an entry and inside the coverage while its
+ * parent, if any, doesn't lie inside both, with the entry's density. Nothing is merged, and the clipped
+ * map is of depth 29. Clipped to its own coverage a map has its entries again. The value is the number
+ * of cells; every place after them is 0. By a refusal both buffers are left as they were.
+ * Refuses by 1: the depth is over 29; then by 4: mzl isn't mdl, sl isn't el, or zl isn't dl; then by 5:
+ * the map is no valid map of that depth, the place is the faulty entry; then by 6: a density is NaN,
+ * infinite or below 0 (-0 is none of these), the place is its entry; then by 14: a range is empty, ends
+ * past N(29), or doesn't start above the end of the one before, the place is the range; then by 11: zl
+ * is below the number of cells. */
+uint64_t mom_clip(uint8_t depth, const uint64_t *map_zuniqs, size_t mzl, const double *map_densities,
+                  size_t mdl, const uint64_t *starts, size_t sl, const uint64_t *ends, size_t el,
+                  uint64_t *zuniqs, size_t zl, double *densities, size_t dl);
 
 #ifdef __cplusplus
 }

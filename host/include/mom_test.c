@@ -700,6 +700,142 @@ static void byte_columns(void) {
            "columns of what is no whole rows into too few bytes");
 }
 
+/* (28, 0) and (29, 4), which touch, (29, 6), (28, 2) and (0, 11): the hashes 0 to 4, 6, 8 to 11, and
+ * the last twelfth of the sky. Behind them stands one that isn't above. */
+static const uint64_t reached[6] = {4, 9, 13, 20, UINT64_C(23) << 58, 9};
+static const uint64_t sky = UINT64_C(12) << 58;
+
+/* The coverage of the first zl of them into two buffers of 5s. */
+struct covered {
+    uint64_t word, starts[6], ends[6];
+};
+
+static struct covered cover(uint8_t depth, size_t zl, size_t sl, size_t el) {
+    struct covered c = {0, {5, 5, 5, 5, 5, 5}, {5, 5, 5, 5, 5, 5}};
+    c.word = mom_coverage(depth, reached, zl, c.starts, sl, c.ends, el);
+    return c;
+}
+
+static int not_covered(struct covered c, uint8_t number, uint64_t place) {
+    int same = answers(c.word, number, place);
+    for (size_t i = 0; i < 6; i++) {
+        same = same && c.starts[i] == 5 && c.ends[i] == 5;
+    }
+    return same;
+}
+
+static void covering(void) {
+    const uint64_t starts[4] = {0, 6, 8, UINT64_C(11) << 58}, ends[4] = {5, 7, 12, sky};
+    struct covered c = cover(29, 5, 6, 6);
+
+    expect(answers(c.word, MOM_ACCEPTED, 4) && memcmp(c.starts, starts, sizeof starts) == 0 &&
+           memcmp(c.ends, ends, sizeof ends) == 0, "four ranges of five entries");
+    expect(c.starts[4] == 0 && c.starts[5] == 0 && c.ends[4] == 0 && c.ends[5] == 0,
+           "zeros behind four ranges");
+    c = cover(29, 5, 4, 4);
+    expect(answers(c.word, MOM_ACCEPTED, 4) && c.ends[3] == sky && c.starts[4] == 5 && c.ends[4] == 5,
+           "four ranges into four places");
+    c = cover(28, 1, 1, 1);
+    expect(answers(c.word, MOM_ACCEPTED, 1) && c.starts[0] == 0 && c.ends[0] == 4,
+           "the range of one entry");
+    c = cover(0, 0, 1, 1);
+    expect(answers(c.word, MOM_ACCEPTED, 0) && c.starts[0] == 0 && c.ends[0] == 0 && c.starts[1] == 5,
+           "the coverage of no entries");
+
+    expect(not_covered(cover(30, 6, 1, 0), MOM_DEPTH_OUT_OF_RANGE, 0), "coverage at depth 30");
+    expect(not_covered(cover(29, 6, 1, 0), MOM_LENGTHS_DIFFER, 0) &&
+           not_covered(cover(29, 6, 5, 6), MOM_LENGTHS_DIFFER, 0), "coverage into two lengths");
+    expect(not_covered(cover(29, 6, 0, 0), MOM_INVALID_MAP, 5), "coverage of what is no map");
+    expect(not_covered(cover(28, 5, 0, 0), MOM_INVALID_MAP, 1),
+           "coverage of an entry deeper than the map");
+    expect(not_covered(cover(29, 5, 3, 3), MOM_NO_SPACE, 0), "four ranges into three places");
+}
+
+/* The map of the five, clipped to so many ranges into buffers of 5s. */
+struct clipped {
+    uint64_t word, zuniqs[10];
+    double densities[10];
+};
+
+static const double halves[5] = {0.5, 1.5, 2.5, 3.5, 4.5};
+
+static struct clipped clip(const double *densities, const uint64_t *starts, const uint64_t *ends,
+                           size_t ranges, size_t places) {
+    struct clipped c = {0, {5, 5, 5, 5, 5, 5, 5, 5, 5, 5}, {5, 5, 5, 5, 5, 5, 5, 5, 5, 5}};
+    c.word = mom_clip(29, reached, 5, densities, 5, starts, ranges, ends, ranges, c.zuniqs, places,
+                      c.densities, places);
+    return c;
+}
+
+static int not_clipped(struct clipped c, uint8_t number, uint64_t place) {
+    int same = answers(c.word, number, place);
+    for (size_t i = 0; i < 10; i++) {
+        same = same && c.zuniqs[i] == 5 && c.densities[i] == 5;
+    }
+    return same;
+}
+
+/* Of two ranges the one at this place is refused. */
+static int no_range(uint64_t start, uint64_t end, uint64_t next_start, uint64_t next_end,
+                    uint64_t place) {
+    const uint64_t starts[2] = {start, next_start}, ends[2] = {end, next_end};
+    return not_clipped(clip(halves, starts, ends, 2, 0), MOM_INVALID_RANGE, place);
+}
+
+static void refused_clips(void) {
+    const uint64_t starts[2] = {1, 0}, ends[2] = {9, 0};
+    const double below_0[5] = {0.5, -0.0, -1, NAN, 4.5};
+    struct clipped c = clip(halves, starts, ends, 1, 0);
+
+    /* What is refused has everything behind it in the table wrong too. */
+    c.word = mom_clip(30, reached, 6, below_0, 5, starts, 2, ends, 1, c.zuniqs, 1, c.densities, 0);
+    expect(not_clipped(c, MOM_DEPTH_OUT_OF_RANGE, 0), "a clip at depth 30");
+    c.word = mom_clip(29, reached, 6, below_0, 5, starts, 2, ends, 2, c.zuniqs, 0, c.densities, 0);
+    expect(not_clipped(c, MOM_LENGTHS_DIFFER, 0), "a clip of a map of two lengths");
+    c.word = mom_clip(29, reached, 5, below_0, 5, starts, 2, ends, 1, c.zuniqs, 0, c.densities, 0);
+    expect(not_clipped(c, MOM_LENGTHS_DIFFER, 0), "a clip to a coverage of two lengths");
+    c.word = mom_clip(29, reached, 5, below_0, 5, starts, 2, ends, 2, c.zuniqs, 0, c.densities, 1);
+    expect(not_clipped(c, MOM_LENGTHS_DIFFER, 0), "a clip into two lengths");
+    c.word = mom_clip(28, reached, 5, below_0, 5, starts, 2, ends, 2, c.zuniqs, 0, c.densities, 0);
+    expect(not_clipped(c, MOM_INVALID_MAP, 1), "a clip of what is no map");
+    expect(not_clipped(clip(below_0, starts, ends, 2, 0), MOM_INVALID_MAP_DENSITY, 2),
+           "a clip of a density below 0");
+
+    expect(no_range(4, 4, 5, 6, 0) && no_range(4, 3, 5, 6, 0) && no_range(1, 2, 4, 4, 1),
+           "a clip to an empty range");
+    expect(no_range(0, sky + 1, 5, 6, 0) && no_range(0, UINT64_MAX, 5, 6, 0) &&
+           no_range(0, 1, sky - 1, sky + 1, 1), "a clip to a range past the sky");
+    expect(no_range(1, 9, 9, 10, 1) && no_range(1, 9, 8, 10, 1) && no_range(1, 9, 0, 1, 1),
+           "a clip to a range that isn't above the one before");
+    expect(not_clipped(clip(halves, starts, ends, 1, 5), MOM_NO_SPACE, 0),
+           "six cells into five places");
+}
+
+static void clipping(void) {
+    const uint64_t starts[3] = {1, 10, sky - 5}, ends[3] = {9, 11, sky};
+    /* (29, 1) to (29, 3) of the first entry, both next ones whole, (29, 8) and (29, 10) of the fourth,
+     * and at the end of the last one (29, N - 5) and the last cell of depth 28. */
+    const uint64_t cells[9] = {3, 5, 7, 9, 13, 17, 21, 2 * sky - 9, 2 * sky - 4};
+    const double densities[9] = {0.5, 0.5, 0.5, 1.5, 2.5, 3.5, 3.5, 4.5, 4.5};
+    struct covered own = cover(29, 5, 6, 6);
+    struct clipped c = clip(halves, starts, ends, 3, 10);
+
+    expect(answers(c.word, MOM_ACCEPTED, 9) && memcmp(c.zuniqs, cells, sizeof cells) == 0 &&
+           memcmp(c.densities, densities, sizeof densities) == 0, "nine cells of three ranges");
+    expect(c.zuniqs[9] == 0 && c.densities[9] == 0, "zeros behind nine cells");
+    c = clip(halves, starts, ends, 3, 9);
+    expect(answers(c.word, MOM_ACCEPTED, 9) && c.zuniqs[8] == cells[8] && c.zuniqs[9] == 5,
+           "nine cells into nine places");
+    c = clip(halves, own.starts, own.ends, 4, 10);
+    expect(answers(c.word, MOM_ACCEPTED, 5) && memcmp(c.zuniqs, reached, 5 * sizeof *reached) == 0 &&
+           memcmp(c.densities, halves, sizeof halves) == 0 && c.zuniqs[5] == 0 && c.densities[9] == 0,
+           "a clip to the map's own coverage");
+    c = clip(halves, starts, ends, 0, 1);
+    expect(answers(c.word, MOM_ACCEPTED, 0) && c.zuniqs[0] == 0 && c.densities[0] == 0 &&
+           c.zuniqs[1] == 5, "a clip to an empty coverage");
+    refused_clips();
+}
+
 int main(void) {
     uint64_t n_hash = 5, zuniq = 5, hash = 5;
     uint8_t depth = 5;
@@ -860,6 +996,8 @@ int main(void) {
     narrowing();
     widening();
     byte_columns();
+    covering();
+    clipping();
 
     printf("%d passed, %d failed\n", passed, failed);
     return failed > 0;

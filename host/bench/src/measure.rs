@@ -113,3 +113,31 @@ pub fn row_with_copy(
         speed(copy)
     );
 }
+
+/// For works on entries that write something else.
+pub fn heading_with_written(group: &str, written: &str) {
+    println!(
+        "\n## {group}\n\n| work | entries | {written}s | ours, ns an entry | Rust, ns an entry | ratio | \
+         checks, ns an entry | ours, ns a {written} | Rust, ns a {written} |"
+    );
+    println!("|---|---:|---:|---:|---:|---:|---:|---:|---:|");
+}
+
+/// The times by the number of entries, and by that of what is written. The checks are all that is looked
+/// at and counted before anything is: the time of the same call with one place too few.
+pub fn row_with_written(
+    work: &str,
+    number: usize,
+    written: usize,
+    (ours, original): (Duration, Duration),
+    checks: Duration,
+) {
+    let (a, b) = (each(ours, number), each(original, number));
+    println!(
+        "| {work} | {number} | {written} | {a:.2} | {b:.2} | {:.2} | {:.2} | {:.2} | {:.2} |",
+        a / b,
+        each(checks, number),
+        each(ours, written),
+        each(original, written)
+    );
+}

@@ -14,7 +14,7 @@ pub struct Cell {
 }
 
 /// N(d) = 12 × 4^d.
-pub fn n_hash(depth: u8) -> u64 {
+pub const fn n_hash(depth: u8) -> u64 {
     12 << (2 * depth)
 }
 

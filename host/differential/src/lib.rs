@@ -12,4 +12,5 @@ pub mod maps;
 pub mod pairs;
 pub mod quads;
 pub mod random;
+pub mod reach;
 pub mod widths;

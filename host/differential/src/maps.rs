@@ -106,11 +106,11 @@ impl Map {
     }
 }
 
-/// The four children of a base cell: each is left out, kept or split, by the digits of `ways`.
-fn split_in(base: Cell, ways: u64) -> Vec<Cell> {
+/// The four children of a cell: each is left out, kept or split, by the digits of `ways`.
+pub fn split_in(cell: Cell, ways: u64) -> Vec<Cell> {
     let mut ways = ways;
     let mut cells = Vec::new();
-    for child in base.children() {
+    for child in cell.children() {
         match ways % 3 {
             0 => {}
             1 => cells.push(child),

@@ -1,16 +1,17 @@
 //! The inputs, against faults that would have the comparison say less than it seems to.
 
-use std::collections::HashSet;
+use std::{collections::HashSet, ops::Range};
 
 use differential::{
     cells::{cells_to, n_hash, Cell, DEPTH_MAX},
     compare::Kind,
     floats::Float,
-    kinds::{CountMerger, LayOutInput, MoveInput},
+    kinds::{ClipInput, CountMerger, CoverInput, LayOutInput, MoveInput, Piece},
     lists::{Add, Build, Input, Value},
     maps::Map,
     quads::{unit_density, Call, Quad, PARENT_DEPTH_MAX},
     random::Random,
+    reach::{clipped_by_tree, coverage_by_hash, coverage_of, hashes, SKY},
     widths::Width,
 };
 use mom::Refusal;
@@ -728,6 +729,261 @@ fn no_refusal_and_no_kind_of_laying_out_is_rare() {
     for classes in [ACCEPTED_LAYOUTS, REFUSED_LAYOUTS] {
         let mut random = Random::new(17);
         let drawn = (0..DRAWN / 4).map(|_| LayOutInput::random(&mut random));
+        assert_none_is_rare(drawn, classes);
+    }
+}
+
+/// Whether the coverage is written, and the cells and their ranges are as `is` asks.
+fn is_covered(input: &CoverInput, is: impl Fn(&[Cell], &[Range<u64>]) -> bool) -> bool {
+    let accepted = input.refusal().is_none();
+    accepted && is(&input.cells(), &coverage_of(&input.cells()))
+}
+
+/// Whether two entries touch whose depths are as `is` asks.
+fn touch(cells: &[Cell], is: impl Fn(u8, u8) -> bool) -> bool {
+    let mut pairs = cells.windows(2);
+    pairs.any(|pair| {
+        hashes(pair[0]).end == hashes(pair[1]).start && is(pair[0].depth, pair[1].depth)
+    })
+}
+
+fn is_not_covered(input: &CoverInput, number: u8) -> bool {
+    let refusal = input.refusal();
+    refusal.is_some_and(|refusal| refusal.number() == number)
+}
+
+const COVERED: &[Class<CoverInput>] = &[
+    ("empty", |input| {
+        is_covered(input, |cells, _| cells.is_empty())
+    }),
+    ("over 20 ranges", |input| {
+        is_covered(input, |_, ranges| ranges.len() > 20)
+    }),
+    ("no entries touch", |input| {
+        is_covered(input, |cells, ranges| {
+            cells.len() > 1 && cells.len() == ranges.len()
+        })
+    }),
+    ("entries of one depth touch", |input| {
+        is_covered(input, |cells, _| touch(cells, |left, right| left == right))
+    }),
+    ("the next one is larger", |input| {
+        is_covered(input, |cells, _| touch(cells, |left, right| left > right))
+    }),
+    ("the next one is smaller", |input| {
+        is_covered(input, |cells, _| touch(cells, |left, right| left < right))
+    }),
+    ("a gap of one hash", |input| {
+        is_covered(input, |_, ranges| {
+            let mut pairs = ranges.windows(2);
+            pairs.any(|pair| pair[0].end + 1 == pair[1].start)
+        })
+    }),
+    ("both ends of the sky", |input| {
+        is_covered(input, |_, ranges| {
+            let (first, last) = (ranges.first(), ranges.last());
+            first.is_some_and(|range| range.start == 0)
+                && last.is_some_and(|range| range.end == SKY)
+        })
+    }),
+    ("judged hash by hash", |input| {
+        is_covered(input, |cells, _| {
+            cells.len() > 1 && coverage_by_hash(cells).is_some()
+        })
+    }),
+    ("fewer places than entries", |input| {
+        is_covered(input, |cells, _| input.places[0] < cells.len())
+    }),
+    ("places left, not of zeros", |input| {
+        input.content > 0 && is_covered(input, |_, ranges| ranges.len() < input.places[0])
+    }),
+    ("1", |input| is_not_covered(input, 1)),
+    ("4", |input| is_not_covered(input, 4)),
+    ("5", |input| is_not_covered(input, 5)),
+    ("5 past place 0", |input| {
+        is_not_covered(input, 5) && input.refusal().is_some_and(|refusal| refusal.place() > 0)
+    }),
+    ("11", |input| is_not_covered(input, 11)),
+    ("11 by one place", |input| {
+        is_not_covered(input, 11) && input.places[0] + 1 == coverage_of(&input.cells()).len()
+    }),
+];
+
+#[test]
+fn no_refusal_and_no_kind_of_coverage_is_rare() {
+    let mut random = Random::new(19);
+    let drawn = (0..DRAWN / 4).map(|_| CoverInput::random(&mut random));
+    assert_none_is_rare(drawn, COVERED);
+}
+
+/// Whether the map is clipped, and its entries, the ranges and what is left are as `is` asks.
+fn is_clipped(input: &ClipInput, is: impl Fn(&[Piece], &[Range<u64>], &[Piece]) -> bool) -> bool {
+    let accepted = input.refusal().is_none();
+    accepted
+        && is(
+            &input.map.entries(),
+            &input.coverage.ranges(),
+            &input.cells(),
+        )
+}
+
+/// How many of the ranges have a hash of the cell.
+fn reaching(ranges: &[Range<u64>], cell: Cell) -> usize {
+    let inside = hashes(cell);
+    let reaches = |range: &&Range<u64>| range.start < inside.end && inside.start < range.end;
+    ranges.iter().filter(reaches).count()
+}
+
+/// Four siblings of one density one after the other, which a merger might take.
+fn has_quad(pieces: &[Piece]) -> bool {
+    pieces.windows(4).any(|four| {
+        let (first, density) = four[0];
+        let parent = first
+            .depth
+            .checked_sub(1)
+            .map(|depth| first.ancestor(depth));
+        let cells = four.iter().map(|piece| piece.0);
+        four.iter().all(|piece| piece.1 == density)
+            && parent.is_some_and(|parent| cells.eq(parent.children()))
+    })
+}
+
+const CLIPPED: &[Class<ClipInput>] = &[
+    ("an empty coverage", |input| {
+        is_clipped(input, |map, ranges, _| !map.is_empty() && ranges.is_empty())
+    }),
+    ("an empty map", |input| {
+        is_clipped(input, |map, ranges, _| map.is_empty() && !ranges.is_empty())
+    }),
+    ("nothing in common", |input| {
+        is_clipped(input, |map, ranges, left| {
+            !map.is_empty() && !ranges.is_empty() && left.is_empty()
+        })
+    }),
+    ("the entries, to several ranges", |input| {
+        is_clipped(input, |map, ranges, left| {
+            map.len() > 2 && ranges.len() > 1 && map == left
+        })
+    }),
+    ("an entry cut into cells", |input| {
+        is_clipped(input, |map, _, left| {
+            let depths = |pieces: &[Piece]| pieces.iter().map(|piece| piece.0.depth).max();
+            depths(left) > depths(map)
+        })
+    }),
+    ("over 100 cells", |input| {
+        is_clipped(input, |_, _, left| left.len() > 100)
+    }),
+    ("an entry in three ranges", |input| {
+        is_clipped(input, |map, ranges, _| {
+            map.iter().any(|piece| reaching(ranges, piece.0) > 2)
+        })
+    }),
+    ("a range over two entries that touch", |input| {
+        is_clipped(input, |_, ranges, left| {
+            left.windows(2).any(|pair| {
+                let end = hashes(pair[0].0).end;
+                let is_inside = |range: &Range<u64>| range.start < end && end < range.end;
+                pair[0].1 != pair[1].1
+                    && end == hashes(pair[1].0).start
+                    && ranges.iter().any(is_inside)
+            })
+        })
+    }),
+    ("four siblings of one density", |input| {
+        is_clipped(input, |_, _, left| has_quad(left))
+    }),
+    ("judged down the tree", |input| {
+        is_clipped(input, |map, ranges, left| {
+            left.len() > 2 && clipped_by_tree(map, ranges).is_some()
+        })
+    }),
+    ("a first range at 0", |input| {
+        is_clipped(input, |_, ranges, left| {
+            !left.is_empty() && ranges.first().is_some_and(|range| range.start == 0)
+        })
+    }),
+    ("a last range to the end of the sky", |input| {
+        is_clipped(input, |_, ranges, left| {
+            !left.is_empty() && ranges.last().is_some_and(|range| range.end == SKY)
+        })
+    }),
+    ("places left, not of zeros", |input| {
+        input.content > 0 && is_clipped(input, |_, _, left| left.len() < input.places[0])
+    }),
+];
+
+/// Whether the call is refused by 14, and the range and the end before it are as `is` asks.
+fn is_no_range(input: &ClipInput, is: impl Fn(&Range<u64>, Option<u64>) -> bool) -> bool {
+    let Some(Refusal::InvalidRange(place)) = input.refusal() else {
+        return false;
+    };
+    let ranges = input.coverage.ranges();
+    let before = ranges[..place].last().map(|range| range.end);
+    is(&ranges[place], before)
+}
+
+fn is_not_clipped(input: &ClipInput, number: u8) -> bool {
+    let refusal = input.refusal();
+    refusal.is_some_and(|refusal| refusal.number() == number)
+}
+
+const NOT_CLIPPED: &[Class<ClipInput>] = &[
+    ("1", |input| is_not_clipped(input, 1)),
+    ("4 of the map", |input| {
+        is_not_clipped(input, 4) && input.map.zuniqs.len() != input.map.values.len()
+    }),
+    ("4 of the coverage", |input| {
+        let coverage = &input.coverage;
+        is_not_clipped(input, 4) && coverage.starts.len() != coverage.ends.len()
+    }),
+    ("4 of the output", |input| {
+        is_not_clipped(input, 4) && input.places[0] != input.places[1]
+    }),
+    ("5", |input| is_not_clipped(input, 5)),
+    ("5 and 14", |input| {
+        is_not_clipped(input, 5) && input.coverage.faulty_range().is_some()
+    }),
+    ("6", |input| is_not_clipped(input, 6)),
+    ("6 and 14", |input| {
+        is_not_clipped(input, 6) && input.coverage.faulty_range().is_some()
+    }),
+    ("14, empty", |input| {
+        is_no_range(input, |range, _| range.start == range.end)
+    }),
+    ("14, turned round", |input| {
+        is_no_range(input, |range, _| range.start > range.end)
+    }),
+    ("14, past the sky", |input| {
+        is_no_range(input, |range, _| range.start < range.end && range.end > SKY)
+    }),
+    ("14, past the sky by one", |input| {
+        is_no_range(input, |range, _| range.end == SKY + 1)
+    }),
+    ("14, touching", |input| {
+        is_no_range(input, |range, before| {
+            range.start < range.end && before == Some(range.start)
+        })
+    }),
+    ("14, falling back", |input| {
+        is_no_range(input, |range, before| {
+            range.start < range.end && before.is_some_and(|before| range.start < before)
+        })
+    }),
+    ("14 and no place", |input| {
+        is_not_clipped(input, 14) && input.places[0] == 0
+    }),
+    ("11", |input| is_not_clipped(input, 11)),
+    ("11 by one place", |input| {
+        is_not_clipped(input, 11) && input.places[0] + 1 == input.cells().len()
+    }),
+];
+
+#[test]
+fn no_refusal_and_no_kind_of_clip_is_rare() {
+    for classes in [CLIPPED, NOT_CLIPPED] {
+        let mut random = Random::new(20);
+        let drawn = (0..DRAWN / 4).map(|_| ClipInput::random(&mut random));
         assert_none_is_rare(drawn, classes);
     }
 }

@@ -6,7 +6,8 @@
 //! blank sky. A map of a depth is given by its zuniqs: it is valid where each is a valid zuniq, none is
 //! of a deeper cell, they rise strictly and no two of their cells overlap. In [`rows`] it comes as
 //! bytes, which [`columns`] lays out by byte column for a disk. A [`narrow`] map has u32 zuniqs and a
-//! depth of at most 13; [`moving`] goes from one width to the other.
+//! depth of at most 13; [`moving`] goes from one width to the other. [`reach`] gives the part of the sky
+//! that a map covers, and clips a density map to such a part.
 //! Nothing here panics, whatever the arguments: a call that can't be answered is refused, and a
 //! [`Refusal`] says in words why, and has the number and the place of the scope's table.
 //!
@@ -27,6 +28,7 @@ mod combining;
 pub mod moving;
 pub mod narrow;
 mod raw;
+pub mod reach;
 mod refusal;
 pub mod rows;
 

@@ -1,10 +1,11 @@
 //! The functions of libmom_c.a as host/include/mom.h declares them, and the word that each answers.
 //! A new function is declared here and gets its safe form in lib.rs. Those of the ingest process are
 //! in raw/rows.rs and rows.rs, those of narrow maps in raw/narrow.rs and narrow.rs, those of byte
-//! columns in raw/columns.rs and columns.rs.
+//! columns in raw/columns.rs and columns.rs, those of coverages in raw/reach.rs and reach.rs.
 
 pub mod columns;
 pub mod narrow;
+pub mod reach;
 pub mod rows;
 
 use crate::{Fault, MapCheck, Refusal};
@@ -507,6 +508,7 @@ mod tests {
             (refused(5, widest), Refusal::InvalidMap(widest as usize)),
             (refused(12, widest), Refusal::InvalidQuery(widest as usize)),
             (refused(13, widest), Refusal::EntryTooDeep(widest as usize)),
+            (refused(14, widest), Refusal::InvalidRange(widest as usize)),
         ] {
             assert_eq!(unpack(word), Answer::Refused(refusal));
         }
@@ -537,7 +539,7 @@ mod tests {
     #[test]
     #[should_panic(expected = "mom.h doesn't allow")]
     fn an_unknown_number_is_not_taken_for_a_refusal() {
-        unpack(refused(14, 0));
+        unpack(refused(15, 0));
     }
 
     #[test]

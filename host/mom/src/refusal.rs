@@ -4,8 +4,8 @@ use std::{error::Error, fmt};
 
 /// Why a call is refused: a case for each number of the scope's table, in checking order, but that 13
 /// is tried after 5; the first that applies is given. A case that has a place holds it, counted from
-/// 0: the entry of a map, the cell of a batch, the child of a merger's four, the query of a test's
-/// two. A refused call has touched no memory that was lent to it.
+/// 0: the entry of a map, the range of a coverage, the cell of a batch, the child of a merger's four, the
+/// query of a test's two. A refused call has touched no memory that was lent to it.
 #[derive(Clone, Copy, Debug, PartialEq, Eq, Hash)]
 #[non_exhaustive]
 pub enum Refusal {
@@ -23,6 +23,9 @@ pub enum Refusal {
     InvalidMap(usize),
     /// 6: a held or given density is NaN, infinite or below 0 at this entry.
     InvalidMapDensity(usize),
+    /// 14: this range of a coverage is empty, ends past N(29), or doesn't start above the end of the one
+    /// before.
+    InvalidRange(usize),
     /// 7: the hash of this cell is not below N(depth).
     HashOutOfRange(usize),
     /// 8: this cell is not above the one before, or is the batch's first and starts before the last
@@ -59,6 +62,7 @@ impl Refusal {
             (11, 0) => Refusal::NoSpace,
             (12, query) => Refusal::InvalidQuery(query),
             (13, entry) => Refusal::EntryTooDeep(entry),
+            (14, range) => Refusal::InvalidRange(range),
             _ => return None,
         })
     }
@@ -72,6 +76,7 @@ impl Refusal {
             Refusal::LengthMismatch => 4,
             Refusal::InvalidMap(_) => 5,
             Refusal::InvalidMapDensity(_) => 6,
+            Refusal::InvalidRange(_) => 14,
             Refusal::HashOutOfRange(_) => 7,
             Refusal::CellNotAbove(_) => 8,
             Refusal::InvalidDensity(_) => 9,
@@ -87,6 +92,7 @@ impl Refusal {
         match self {
             Refusal::InvalidMap(place)
             | Refusal::InvalidMapDensity(place)
+            | Refusal::InvalidRange(place)
             | Refusal::HashOutOfRange(place)
             | Refusal::CellNotAbove(place)
             | Refusal::InvalidDensity(place)
@@ -115,6 +121,9 @@ impl Refusal {
             Refusal::InvalidMap(_) => "a held or given map is invalid at this entry",
             Refusal::InvalidMapDensity(_) => {
                 "a held or given density is NaN, infinite or below 0 at this entry"
+            }
+            Refusal::InvalidRange(_) => {
+                "the range is empty, ends past N(29), or doesn't start above the end of the one before"
             }
             Refusal::HashOutOfRange(_) => "the cell's hash is N(depth) or more",
             Refusal::CellNotAbove(_) => {
@@ -152,7 +161,7 @@ mod tests {
 
     #[test]
     fn no_number_and_no_place_is_lost() {
-        for number in 1..=13 {
+        for number in 1..=14 {
             let has_place = ![1, 2, 3, 4, 11].contains(&number);
             for place in [0, 1, usize::MAX >> 8] {
                 let refusal = Refusal::of(number, place);
@@ -165,7 +174,7 @@ mod tests {
 
     #[test]
     fn no_other_number_is_a_refusal() {
-        for number in [0, 14, 64, 65, 255] {
+        for number in [0, 15, 64, 65, 255] {
             assert_eq!(Refusal::of(number, 0), None);
         }
     }
@@ -176,8 +185,8 @@ mod tests {
             Refusal::HashOutOfRange(7).to_string(),
             "refused by 7 at place 7: the cell's hash is N(depth) or more"
         );
-        let words = (1..=13).map(|number| Refusal::of(number, 0).unwrap().words());
+        let words = (1..=14).map(|number| Refusal::of(number, 0).unwrap().words());
         let different: std::collections::BTreeSet<_> = words.collect();
-        assert_eq!(different.len(), 13);
+        assert_eq!(different.len(), 14);
     }
 }

@@ -8,6 +8,7 @@ pub mod growth;
 pub mod lookup;
 pub mod moving;
 pub mod program;
+pub mod reach;
 pub mod rows;
 
 use crate::measure::Rounds;
@@ -25,7 +26,7 @@ pub struct Group {
     pub run: fn(Plan),
 }
 
-pub const GROUPS: [Group; 9] = [
+pub const GROUPS: [Group; 10] = [
     Group {
         name: "cells",
         run: cells::run,
@@ -53,6 +54,10 @@ pub const GROUPS: [Group; 9] = [
     Group {
         name: "columns",
         run: columns::run,
+    },
+    Group {
+        name: "reach",
+        run: reach::run,
     },
     Group {
         name: "mombuild",

@@ -85,7 +85,7 @@ fn plain<Z: Width>(
     if map.depth > Z::DEPTH_MAX || entries != map.values.len() || zuniqs.len() != counts.len() {
         return None;
     }
-    if deepest(map)? > Z::Other::DEPTH_MAX || zuniqs.len() < entries {
+    if deepest(map.depth, &map.zuniqs)? > Z::Other::DEPTH_MAX || zuniqs.len() < entries {
         return None;
     }
     for (place, &zuniq) in zuniqs.iter_mut().zip(&map.zuniqs) {
@@ -98,11 +98,11 @@ fn plain<Z: Width>(
     Some(Moved { depth, entries })
 }
 
-/// The depth of the deepest entry; none where one is no zuniq, deeper than the map, or starts before the
-/// one before it ends.
-fn deepest<Z: Width>(map: &Map<u32, Z>) -> Option<u8> {
+/// The depth of the deepest entry of a map of that depth; none where one is no zuniq, deeper than the map,
+/// or starts before the one before it ends.
+pub fn deepest<Z: Width>(map_depth: u8, zuniqs: &[Z]) -> Option<u8> {
     let (mut deepest, mut end) = (0, 0);
-    for zuniq in &map.zuniqs {
+    for zuniq in zuniqs {
         let zuniq = zuniq.bits();
         let zeros = zuniq.trailing_zeros() as u8;
         if zeros > 2 * Z::DEPTH_MAX || zeros % 2 == 1 {
@@ -111,7 +111,7 @@ fn deepest<Z: Width>(map: &Map<u32, Z>) -> Option<u8> {
         let depth = Z::DEPTH_MAX - zeros / 2;
         let hash = zuniq >> (zeros + 1);
         let start = hash << zeros;
-        if hash >= 12 << (2 * depth) || depth > map.depth || start < end {
+        if hash >= 12 << (2 * depth) || depth > map_depth || start < end {
             return None;
         }
         end = (hash + 1) << zeros;

@@ -1,13 +1,15 @@
-//! Every kind of comparison, in the order of the scope's sections; then those of narrow maps, and of rows
-//! laid out by byte column.
+//! Every kind of comparison, in the order of the scope's sections; then those of narrow maps, of rows laid
+//! out by byte column, and of coverages.
 
 mod add_counts;
 mod add_densities;
 mod are_overlapping;
 mod check_is_mom;
 mod chi;
+mod clip;
 mod columns;
 mod count_merger;
+mod coverage;
 mod density_merger;
 mod density_of_count;
 mod from_zuniq;
@@ -31,8 +33,10 @@ use crate::{
 pub use are_overlapping::AreOverlapping;
 pub use check_is_mom::{told, CheckIsMom};
 pub use chi::{CountChi, DensityChi};
+pub use clip::{Clip, Input as ClipInput, Piece};
 pub use columns::{Input as LayOutInput, LayOut, Step as LayOutStep, ToColumns, ToRows, Way};
 pub use count_merger::CountMerger;
+pub use coverage::{Cover, Input as CoverInput};
 pub use density_merger::DensityMerger;
 pub use density_of_count::DensityOfCount;
 pub use from_zuniq::FromZuniq;
@@ -103,4 +107,6 @@ pub static KINDS: &[Entry] = &[
     entry::<MoveBuilt<u32>>(),
     entry::<LayOut<ToColumns>>(),
     entry::<LayOut<ToRows>>(),
+    entry::<Cover>(),
+    entry::<Clip>(),
 ];

@@ -224,7 +224,7 @@ fn map<V: Combine>(random: &mut Random, cells: &[Cell], even: bool) -> Given<V> 
 }
 
 /// The cells of two maps: of one kind each, or made from each other.
-fn cells(random: &mut Random) -> [Vec<Cell>; 2] {
+pub fn cells(random: &mut Random) -> [Vec<Cell>; 2] {
     let mut one = match random.below(3) {
         0 => chain(random),
         1 => merged(random),

@@ -17,6 +17,7 @@ use crate::{
     widths::Width,
 };
 
+pub use draw::cells as two_maps;
 pub use overlay::{overlay, Seen};
 
 /// What two maps hold that are combined.

@@ -2,7 +2,7 @@
 
 use std::ops::Range;
 
-use super::plain::{cell_of, overlap_test, Zuniq};
+use super::plain::{cell_of, hashes, overlap_test, Cell, Zuniq};
 
 pub struct Draw(u64);
 
@@ -46,9 +46,35 @@ pub struct LayoutCall {
     pub lent: Range<usize>,
 }
 
+/// The arguments of a clip call but for the densities and the output.
+#[derive(Clone, Debug)]
+pub struct ClipCall {
+    pub map: Side<u64>,
+    pub starts: Vec<u64>,
+    pub ends: Vec<u64>,
+}
+
+/// N(29), behind the last hash.
+const SKY: u64 = 12 << 58;
+
 /// (2h + 1) × 4^(K − d), K being the largest depth.
 fn zuniq_of<Z: Zuniq>(depth: u8, hash: u64) -> Z {
     Z::of((2 * hash + 1) << (2 * (Z::MAX_DEPTH - depth)))
+}
+
+/// The bounds of what a map covers: those where it starts or ends, and not both.
+fn own_bounds(zuniqs: &[u64]) -> Vec<u64> {
+    let cells = zuniqs.iter().filter_map(|&z| cell_of(z));
+    let mut bounds: Vec<u64> = Vec::new();
+    for hashes in cells.map(hashes) {
+        if bounds.last() == Some(&hashes.start) {
+            bounds.pop();
+        } else {
+            bounds.push(hashes.start);
+        }
+        bounds.push(hashes.end);
+    }
+    bounds
 }
 
 impl Draw {
@@ -191,6 +217,16 @@ impl Draw {
 
     pub fn densities_of(&mut self, number: usize) -> Vec<f64> {
         (0..number).map(|_| self.density()).collect()
+    }
+
+    /// Mostly all of them valid, however many there are.
+    pub fn few_faulty_densities(&mut self, number: usize) -> Vec<f64> {
+        let mut densities: Vec<f64> = (0..number).map(|_| self.below(64) as f64 / 4.0).collect();
+        if number > 0 && self.one_in(8) {
+            let place = self.below(number);
+            densities[place] = self.float();
+        }
+        densities
     }
 
     /// Mostly rising, and half of them without entries that overlap their predecessor.
@@ -356,6 +392,11 @@ impl Draw {
                 self.cover((0, base), way, end, deepest, &mut zuniqs);
             }
         }
+        self.spoilt(depth, zuniqs)
+    }
+
+    /// The map of these entries, now and then with something wrong in it.
+    fn spoilt<Z: Zuniq>(&mut self, depth: u8, mut zuniqs: Vec<Z>) -> Side<Z> {
         match self.below(16) {
             0 => zuniqs = self.map(),
             1 if !zuniqs.is_empty() => {
@@ -443,6 +484,135 @@ impl Draw {
             side.zuniqs[place..].rotate_right(1);
         }
         side
+    }
+
+    /// A cell of few depth-29 cells, now and then at an end of the sky.
+    fn small_area(&mut self) -> Cell {
+        let depth = 26 + self.below(3) as u8;
+        let n = 12 << (2 * depth);
+        let hash = match self.below(4) {
+            0 => 0,
+            1 => n - 1,
+            _ => self.below(n as usize) as u64,
+        };
+        (depth, hash)
+    }
+
+    /// Entries in that area, or now and then one over all of it.
+    fn small_entries(&mut self, (depth, hash): Cell) -> Vec<u64> {
+        if self.one_in(4) {
+            let up = self.below(depth as usize + 1) as u8;
+            return vec![zuniq_of(depth - up, hash >> (2 * up))];
+        }
+        let inside = hashes((depth, hash));
+        let way = inside.start + self.below((inside.end - inside.start) as usize) as u64;
+        let end = depth + self.below(4) as u8;
+        let mut zuniqs = Vec::new();
+        self.cover((depth, hash), way, end.min(29), 29, &mut zuniqs);
+        zuniqs
+    }
+
+    /// Some of the hashes of that area and next to it, as bounds of ranges.
+    fn small_bounds(&mut self, area: Cell) -> Vec<u64> {
+        let inside = hashes(area);
+        let few = [2, 4, 16][self.below(3)];
+        let near = inside.start.saturating_sub(3)..=(inside.end + 3).min(SKY);
+        near.filter(|_| self.one_in(few)).collect()
+    }
+
+    /// Bounds at the ends of entries, near them, and elsewhere.
+    fn bounds(&mut self, zuniqs: &[u64]) -> Vec<u64> {
+        let mut bounds = Vec::new();
+        let few = [1, 2, 8][self.below(3)];
+        for cell in zuniqs.iter().filter_map(|&z| cell_of(z)) {
+            let inside = hashes(cell);
+            for end in [inside.start, inside.end] {
+                let away = (self.below(4) as u64) << (2 * self.below(30));
+                match self.below(4 * few) {
+                    0 => bounds.push(end),
+                    1 => bounds.push((end + away).min(SKY)),
+                    2 => bounds.push(end.saturating_sub(away)),
+                    3 => bounds.push(end.saturating_sub(1)),
+                    _ => {}
+                }
+            }
+        }
+        if self.one_in(4) {
+            bounds.extend([0, SKY, self.below(SKY as usize) as u64]);
+        }
+        bounds
+    }
+
+    /// Ranges between these bounds, of which every second one is an end; now and then one that is wrong.
+    fn ranges(&mut self, mut bounds: Vec<u64>) -> (Vec<u64>, Vec<u64>) {
+        bounds.sort();
+        bounds.dedup();
+        let ranges = bounds.chunks_exact(2);
+        let (mut starts, mut ends): (Vec<u64>, Vec<u64>) =
+            ranges.map(|range| (range[0], range[1])).unzip();
+        if !starts.is_empty() && self.one_in(5) {
+            self.spoil_range(&mut starts, &mut ends);
+        }
+        if self.one_in(32) {
+            starts.push(SKY);
+        }
+        (starts, ends)
+    }
+
+    fn spoil_range(&mut self, starts: &mut [u64], ends: &mut [u64]) {
+        let place = self.below(starts.len());
+        let before = ends[place.saturating_sub(1)];
+        let some = self.below(9) as u64;
+        match self.below(8) {
+            0 => ends[place] = starts[place],
+            1 => ends[place] = ends[place].saturating_sub(some),
+            2 => ends[place] = SKY + some,
+            3 => ends[place] = self.few_bits(),
+            4 => starts[place] = before,
+            5 => starts[place] = before.saturating_sub(some),
+            6 => starts[place] = self.few_bits(),
+            _ => starts.swap(0, place),
+        }
+    }
+
+    /// A map of that area, mostly of depth 29, and bounds there.
+    fn small_map(&mut self) -> (Side<u64>, Vec<u64>) {
+        let area = self.small_area();
+        let zuniqs = self.small_entries(area);
+        let depth = match self.below(16) {
+            0 => self.depth::<u64>(),
+            _ => 29,
+        };
+        (self.spoilt(depth, zuniqs), self.small_bounds(area))
+    }
+
+    /// A map and bounds about it, both of few depth-29 cells or both of any.
+    fn bounded_map(&mut self) -> (Side<u64>, Vec<u64>) {
+        if self.one_in(2) {
+            return self.small_map();
+        }
+        let way = self.below(SKY as usize) as u64;
+        let map = self.combined(way);
+        let bounds = self.bounds(&map.zuniqs);
+        (map, bounds)
+    }
+
+    /// A map to be covered.
+    pub fn covered(&mut self) -> Side<u64> {
+        let (map, _) = self.bounded_map();
+        map
+    }
+
+    /// A map and ranges; now and then the map's own ranges, or none.
+    pub fn clip_call(&mut self) -> ClipCall {
+        let (map, bounds) = self.bounded_map();
+        let bounds = match self.below(16) {
+            0 => vec![],
+            1 => own_bounds(&map.zuniqs),
+            _ => bounds,
+        };
+        let (starts, ends) = self.ranges(bounds);
+        ClipCall { map, starts, ends }
     }
 
     /// Mostly whole rows of a length that is named, and an output that is long enough.

@@ -9,6 +9,7 @@ mod draw;
 mod moving;
 mod narrow;
 mod plain;
+mod reach;
 
 use std::{
     collections::BTreeSet,
@@ -38,6 +39,16 @@ fn rounds(name: &str, mut round: impl FnMut(&mut Draw)) {
 fn assert_some(name: &str, what: &str, times: usize) {
     println!("fuzz of {name}: {what} {times} times");
     assert!(times >= 5, "{name}: {what}");
+}
+
+/// With a value on both sides that isn't lent.
+fn fenced<T: Copy>(fence: T, places: &[T]) -> Vec<T> {
+    [&[fence][..], places, &[fence]].concat()
+}
+
+fn lent<T>(fenced: &mut [T]) -> &mut [T] {
+    let places = fenced.len() - 2;
+    &mut fenced[1..=places]
 }
 
 fn bits(xs: &[f64]) -> Vec<u64> {

@@ -8,6 +8,7 @@ use mom::{
 use super::{
     assert_some,
     draw::{Draw, Side},
+    fenced, lent,
     plain::{self, Zuniq},
     rounds, Met,
 };
@@ -17,17 +18,6 @@ type Move<Z, Y> = fn(u8, &[Z], &[u32], &mut [Y], &mut [u32]) -> Result<Moved, Re
 
 /// What was moved, the places of the output, and the answer.
 type Tried<Z> = (Side<Z>, usize, Result<Moved, Refusal>);
-
-/// With a number on both sides that isn't lent.
-fn fenced<Z: Zuniq>(places: &[Z]) -> Vec<Z> {
-    let fence = [Z::of(0xdead_beef)];
-    [&fence[..], places, &fence].concat()
-}
-
-fn lent<Z>(fenced: &mut [Z]) -> &mut [Z] {
-    let places = fenced.len() - 2;
-    &mut fenced[1..=places]
-}
 
 fn there_and_back<Z: Zuniq, Y: Zuniq>(
     draw: &mut Draw,
@@ -40,13 +30,14 @@ fn there_and_back<Z: Zuniq, Y: Zuniq>(
     let n = draw.counts_of(places);
     let (answer, zuniqs, values) = plain::moved(&map, &counts, &z, &n);
 
-    let (mut out_z, mut out_n) = (fenced(&z), fenced(&n));
+    let (fence_z, fence_n) = (Y::of(0xdead_beef), 0xdead_beef);
+    let (mut out_z, mut out_n) = (fenced(fence_z, &z), fenced(fence_n, &n));
     let (oz, on) = (lent(&mut out_z), lent(&mut out_n));
     let moved = there(map.depth, &map.zuniqs, &counts, oz, on);
     let told = moved.map(|moved| (moved.depth, moved.entries));
     assert_eq!(told, answer, "{map:?}");
-    assert_eq!(out_z, fenced(&zuniqs), "{map:?}");
-    assert_eq!(out_n, fenced(&values), "{map:?}");
+    assert_eq!(out_z, fenced(fence_z, &zuniqs), "{map:?}");
+    assert_eq!(out_n, fenced(fence_n, &values), "{map:?}");
     if let Ok(moved) = moved {
         let (zuniqs, values) = (&zuniqs[..moved.entries], &values[..moved.entries]);
         assert_back(&map, &counts, moved, zuniqs, values, back);

@@ -5,9 +5,9 @@ use std::{fmt::Debug, ops::Range};
 
 use mom::{Fault, MapCheck, Refusal};
 
-use super::draw::{AddCall, CombineCall, LayoutCall, Side};
+use super::draw::{AddCall, ClipCall, CombineCall, LayoutCall, Side};
 
-type Cell = (u8, u64);
+pub type Cell = (u8, u64);
 type Answer<T> = Result<T, Refusal>;
 
 /// A width of zuniqs: u64, and u32 for narrow maps. A hash has the same width.
@@ -679,4 +679,206 @@ pub fn laid_out(call: &LayoutCall, from_rows: bool) -> (Answer<usize>, Vec<u8>) 
         output[call.lent.start + to] = call.input[from];
     }
     (Ok(rows), output)
+}
+
+// ---- Request 6
+
+/// "A list of half-open ranges of depth-29 hashes, here starts and ends in two paired buffers."
+pub fn ranges(starts: &[u64], ends: &[u64]) -> Vec<Range<u64>> {
+    let pairs = starts.iter().zip(ends);
+    pairs.map(|(&start, &end)| start..end).collect()
+}
+
+/// The depth-29 cells that lie in a cell.
+pub fn hashes((d, h): Cell) -> Range<u64> {
+    h * scale::<u64>(d)..(h + 1) * scale::<u64>(d)
+}
+
+/// "Exactly the depth-29 cells that lie in an entry, as rising ranges, none touching the next": a range
+/// starts with a hash that lies in an entry while the one before doesn't, and ends before one that
+/// doesn't.
+pub fn coverage_of(cells: &[Cell]) -> Vec<Range<u64>> {
+    let is_in = |k: u64| cells.iter().any(|&cell| hashes(cell).contains(&k));
+    let starts = cells.iter().map(|&cell| hashes(cell).start);
+    let ends = cells.iter().map(|&cell| hashes(cell).end);
+    let starts = starts.filter(|&k| k == 0 || !is_in(k - 1));
+    let ends = ends.filter(|&k| !is_in(k));
+    starts.zip(ends).map(|(start, end)| start..end).collect()
+}
+
+/// So many depth-29 cells can be looked at one by one.
+const FEW: u64 = 256;
+
+/// The same, hash by hash; none where there are more than a few.
+pub fn coverage_by_hash(cells: &[Cell]) -> Option<Vec<Range<u64>>> {
+    let all = cells.iter().map(|&cell| hashes(cell));
+    if all.clone().any(|hashes| hashes.end - hashes.start > FEW) {
+        return None;
+    }
+    let mut ranges: Vec<Range<u64>> = Vec::new();
+    for k in all.flatten() {
+        match ranges.last_mut() {
+            Some(last) if last.end == k => last.end += 1,
+            _ => ranges.push(k..k + 1),
+        }
+    }
+    Some(ranges)
+}
+
+/// The cells of a valid map.
+pub fn valid_cells(side: &Side<u64>) -> Answer<Vec<Cell>> {
+    if let Some((place, _)) = first_fault(side.depth, &side.zuniqs) {
+        return refused(5, place);
+    }
+    Ok(side.zuniqs.iter().map(|&z| cell_of(z).unwrap()).collect())
+}
+
+/// The coverage of a map, into buffers that held `starts` and `ends`.
+pub fn coverage(side: &Side<u64>, starts: &[u64], ends: &[u64]) -> Left<usize, u64, u64> {
+    let check = || {
+        depth::<u64>(side.depth)?;
+        refuse_if(starts.len() != ends.len(), 4, 0)?;
+        let ranges = coverage_of(&valid_cells(side)?);
+        refuse_if(starts.len() < ranges.len(), 11, 0)?;
+        Ok(ranges)
+    };
+    match check() {
+        Ok(ranges) => {
+            let mut first: Vec<u64> = ranges.iter().map(|range| range.start).collect();
+            let mut last: Vec<u64> = ranges.iter().map(|range| range.end).collect();
+            first.resize(starts.len(), 0);
+            last.resize(ends.len(), 0);
+            (Ok(ranges.len()), first, last)
+        }
+        Err(refusal) => (Err(refusal), starts.to_vec(), ends.to_vec()),
+    }
+}
+
+/// "14, a range is empty, ends past N(29), or doesn't start above the previous end."
+pub fn faulty_range(ranges: &[Range<u64>]) -> Option<usize> {
+    (0..ranges.len()).find(|&i| {
+        let Range { start, end } = ranges[i];
+        end <= start || end > n(29) || i > 0 && start <= ranges[i - 1].end
+    })
+}
+
+/// A cell of a clipped map, and the place of the entry that it lies in.
+pub type Piece = (Cell, usize);
+
+/// The cells of a map clipped to valid ranges: of each entry and each range what they have in common, cut
+/// from the entry downwards.
+pub fn clipped(cells: &[Cell], ranges: &[Range<u64>]) -> Vec<Piece> {
+    let mut pieces = Vec::new();
+    for (place, &cell) in cells.iter().enumerate() {
+        for range in ranges {
+            cut(cell, range, place, &mut pieces);
+        }
+    }
+    pieces
+}
+
+/// The cell where it lies in the range, else what is in it of its children.
+fn cut(cell: Cell, range: &Range<u64>, place: usize, pieces: &mut Vec<Piece>) {
+    let hashes = hashes(cell);
+    if hashes.end <= range.start || range.end <= hashes.start {
+        return;
+    }
+    if range.start <= hashes.start && hashes.end <= range.end {
+        pieces.push((cell, place));
+        return;
+    }
+    for child in 0..4 {
+        cut((cell.0 + 1, 4 * cell.1 + child), range, place, pieces);
+    }
+}
+
+/// "Every cell that lies inside an entry and inside the coverage while its parent, if any, doesn't lie
+/// inside both, with the entry's density": word for word, all depth-29 cells of a cell being looked at one
+/// by one. None where the ranges have more than a few.
+pub fn clipped_down_the_tree(cells: &[Cell], ranges: &[Range<u64>]) -> Option<Vec<Piece>> {
+    if ranges
+        .iter()
+        .map(|range| range.end - range.start)
+        .sum::<u64>()
+        > FEW
+    {
+        return None;
+    }
+    let mut pieces = Vec::new();
+    for base in 0..12 {
+        down_the_tree((0, base), cells, ranges, &mut pieces);
+    }
+    pieces.sort_by_key(|&((d, h), _)| encode::<u64>(d, h).unwrap());
+    Some(pieces)
+}
+
+/// The entry that the cell lies in, if it is inside the coverage too.
+fn in_both(cell: Cell, cells: &[Cell], ranges: &[Range<u64>]) -> Option<usize> {
+    let in_coverage = |k: u64| ranges.iter().any(|range| range.contains(&k));
+    let entry = cells.iter().position(|&entry| lies_in(cell, entry))?;
+    hashes(cell).all(in_coverage).then_some(entry)
+}
+
+fn down_the_tree(cell: Cell, cells: &[Cell], ranges: &[Range<u64>], pieces: &mut Vec<Piece>) {
+    let (d, h) = cell;
+    let parent_in_both = d > 0 && in_both((d - 1, h / 4), cells, ranges).is_some();
+    if let (Some(entry), false) = (in_both(cell, cells, ranges), parent_in_both) {
+        pieces.push((cell, entry));
+    }
+    // What lies inside a coverage has a hash of it.
+    let inside = hashes(cell);
+    let reached = |range: &Range<u64>| range.start < inside.end && inside.start < range.end;
+    if d < 29 && ranges.iter().any(reached) {
+        for child in 0..4 {
+            down_the_tree((d + 1, 4 * h + child), cells, ranges, pieces);
+        }
+    }
+}
+
+/// What two coverages have in common.
+pub fn common(left: &[Range<u64>], right: &[Range<u64>]) -> Vec<Range<u64>> {
+    let pairs = left.iter().flat_map(|l| right.iter().map(move |r| (l, r)));
+    let common = pairs.map(|(l, r)| l.start.max(r.start)..l.end.min(r.end));
+    common.filter(|range| !range.is_empty()).collect()
+}
+
+/// All that is looked at before the space: the cells of the map, and the ranges.
+pub fn check_clip(
+    call: &ClipCall,
+    densities: &[f64],
+    places: [usize; 2],
+) -> Answer<(Vec<Cell>, Vec<Range<u64>>)> {
+    let map = &call.map;
+    depth::<u64>(map.depth)?;
+    refuse_if(map.zuniqs.len() != densities.len(), 4, 0)?;
+    refuse_if(call.starts.len() != call.ends.len(), 4, 0)?;
+    refuse_if(places[0] != places[1], 4, 0)?;
+    let cells = valid_cells(map)?;
+    if let Some(place) = densities.iter().position(|&x| invalid(x)) {
+        return refused(6, place);
+    }
+    let ranges = ranges(&call.starts, &call.ends);
+    if let Some(place) = faulty_range(&ranges) {
+        return refused(14, place);
+    }
+    Ok((cells, ranges))
+}
+
+/// The clipped map, into an output that held `z` and `x`.
+pub fn clip(call: &ClipCall, densities: &[f64], z: &[u64], x: &[f64]) -> Left<usize, u64, f64> {
+    let check = || {
+        let (cells, ranges) = check_clip(call, densities, [z.len(), x.len()])?;
+        let pieces = clipped(&cells, &ranges);
+        refuse_if(z.len() < pieces.len(), 11, 0)?;
+        Ok(pieces)
+    };
+    match check() {
+        Ok(pieces) => {
+            let entry = |&(cell, place): &Piece| (cell, densities[place]);
+            let entries: Vec<(Cell, f64)> = pieces.iter().map(entry).collect();
+            let (zuniqs, densities, number) = buffers(&entries, z.len());
+            (Ok(number), zuniqs, densities)
+        }
+        Err(refusal) => (Err(refusal), z.to_vec(), x.to_vec()),
+    }
 }
