@@ -141,7 +141,8 @@ fn first_refusal(first: Check, second: Check) -> Check
 
 // Walks a valid map and a coverage side by side: what the next entry and the next range have in common is
 // cut into cells, then the one that ends first is past. Answers how many cells there are; writing, it puts
-// them into the first places of the output buffers.
+// them into the first places of the output buffers. A range is fetched only once: the compiler then leaves
+// the branch that asks which one is past, and the next entry does not wait for the answer.
 fn walk(
     map_zuniqs: &[u64],
     map_densities: &[f64],
@@ -155,19 +156,19 @@ fn walk(
     requires { ⌜ Room pass 0 (clippedOf (now «map_zuniqs») (now «map_densities») (now starts) (now ends)) (now zuniqs) (now densities) ⌝ }
     ensures { λ r. ⌜ (r ≡ length (clippedOf (now («map_zuniqs» .entry)) (now («map_densities» .entry)) (now (starts .entry)) (now (ends .entry)))) × Outcome pass 0 (clippedOf (now («map_zuniqs» .entry)) (now («map_densities» .entry)) (now (starts .entry)) (now (ends .entry))) (now (zuniqs .entry)) (now (densities .entry)) (now (zuniqs .exit)) (now (densities .exit)) ⌝ }
 {
+    if starts.len() == 0 {
+        return 0;
+    }
     let mut n: usize = 0;
     let mut i = 0;
     let mut j = 0;
+    let mut range = HashRange {
+        start: starts[0],
+        end: ends[0],
+    };
     while i < map_zuniqs.len() {
-        if j >= starts.len() {
-            return n;
-        }
         let zuniq = map_zuniqs[i];
         let cell = entry_range(zuniq);
-        let range = HashRange {
-            start: starts[j],
-            end: ends[j],
-        };
         n = clip_entry(
             zuniq,
             cell,
@@ -180,9 +181,16 @@ fn walk(
         );
         if cell.end <= range.end {
             i += 1;
-        } else {
-            j += 1;
+            continue;
         }
+        j += 1;
+        if j >= starts.len() {
+            return n;
+        }
+        range = HashRange {
+            start: starts[j],
+            end: ends[j],
+        };
     }
     n
 }
