@@ -415,8 +415,10 @@ uint64_t mom_coverage(uint8_t depth, const uint64_t *zuniqs, size_t zl, uint64_t
 /* Clips a density map of that depth to the coverage in starts and ends, into zuniqs and densities,
  * which may hold anything: every cell that lies inside an entry and inside the coverage while its
  * parent, if any, doesn't lie inside both, with the entry's density. Nothing is merged, and the clipped
- * map is of depth 29. Clipped to its own coverage a map has its entries again. The value is the number
- * of cells; every place after them is 0. By a refusal both buffers are left as they were.
+ * map is of depth 29. Clipped to its own coverage a map has its entries again: sl and el are then the
+ * number of ranges, since the zeros that mom_coverage leaves behind them would be an empty range. The
+ * value is the number of cells; every place after them is 0. By a refusal both buffers are left as they
+ * were.
  * Refuses by 1: the depth is over 29; then by 4: mzl isn't mdl, sl isn't el, or zl isn't dl; then by 5:
  * the map is no valid map of that depth, the place is the faulty entry; then by 6: a density is NaN,
  * infinite or below 0 (-0 is none of these), the place is its entry; then by 14: a range is empty, ends

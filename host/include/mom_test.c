@@ -830,6 +830,8 @@ static void clipping(void) {
     expect(answers(c.word, MOM_ACCEPTED, 5) && memcmp(c.zuniqs, reached, 5 * sizeof *reached) == 0 &&
            memcmp(c.densities, halves, sizeof halves) == 0 && c.zuniqs[5] == 0 && c.densities[9] == 0,
            "a clip to the map's own coverage");
+    expect(not_clipped(clip(halves, own.starts, own.ends, 5, 10), MOM_INVALID_RANGE, 4),
+           "a clip to a coverage with a zero behind it");
     c = clip(halves, starts, ends, 0, 1);
     expect(answers(c.word, MOM_ACCEPTED, 0) && c.zuniqs[0] == 0 && c.densities[0] == 0 &&
            c.zuniqs[1] == 5, "a clip to an empty coverage");

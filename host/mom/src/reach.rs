@@ -49,7 +49,8 @@ pub fn coverage(
 /// while its parent, if any, doesn't lie inside both, with the entry's density. A cell lies inside the
 /// coverage if all its depth-29 cells do. Nothing is merged, and the clipped map is of depth 29. Answers
 /// the number of cells; every place after them is 0. Clipped to its own coverage a map has its entries
-/// again. A refused call leaves both buffers as they were.
+/// again; the zeros that [`coverage`] leaves behind the ranges are to be cut off, since they would be an
+/// empty range. A refused call leaves both buffers as they were.
 ///
 /// Refused by 1: the depth is over 29; then by 4: zuniqs and densities of the map, starts and ends, or
 /// the two output buffers differ in length; then by 5: the map is not valid, the place is its first

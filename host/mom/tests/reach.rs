@@ -587,6 +587,11 @@ fn no_range_that_is_none_is_accepted() {
         });
         assert_not_clipped(14, place, |call| call.starts[place] = 0);
     }
+    // What a coverage call leaves behind its ranges.
+    assert_not_clipped(14, 3, |call| {
+        call.starts.push(0);
+        call.ends.push(0);
+    });
     // The end of the first is past the start of the second, which isn't wrong by itself.
     assert_not_clipped(14, 1, |call| call.ends[0] = 10);
     assert_not_clipped(14, 1, |call| call.ends[0] = SKY);
