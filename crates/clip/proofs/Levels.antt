@@ -63,7 +63,7 @@ levels-least e k t j is u v = omega arith
 levels-le : (k t j : ℕ) → k ≡ min t j / 2 → j ≤ 58 → (k ≤ 29) × (2 * k ≤ j) × (2 * k ≤ t)
 levels-le k t j is u = (omega arith, omega arith, omega arith)
 
-top-le : (j x : ℕ) → 2 ^ j ≤ x → x ≤ 2 ^ 58 → j ≤ 58
+pub top-le : (j x : ℕ) → 2 ^ j ≤ x → x ≤ 2 ^ 58 → j ≤ 58
 top-le j x u v = by-contra j 58 (λ l. let o : 2 ^ 59 ≤ 2 ^ j = pow-mono l in omega arith)
 
 module _ (a b : ℕ) (some : a < b) (base : b ≤ a + 4 ^ 29) where

@@ -1,6 +1,7 @@
 pub mod Both
 pub mod Tree
 pub mod Levels
+pub mod Digits
 pub mod Swept
 pub mod Walking
 pub mod Call

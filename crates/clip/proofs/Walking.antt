@@ -25,7 +25,7 @@ use Rattle.coverage.proofs.Inside.{end-is-start-plus-width}
 use Rattle.coverage.proofs.Given.{ranges-drop, ranges-drop-end}
 use Rattle.clip.specs.declared.Pass.{Pass}
 use Rattle.clip.specs.Call.{clippedOf}
-use Rattle.clip.specs.Passes.{LargestAt, LargestWidth, Cut, Outcome, Room, CanCut, IsCut, CanKeep, Kept}
+use Rattle.clip.specs.Passes.{LargestAt, LargestWidth, Cut, CutInto, Outcome, Room, CanCut, IsCut, CanKeep, Kept}
 use Rattle.clip.proofs.Tree.{clip-rises, clip-length, clip-has-iff}
 use Rattle.clip.proofs.Levels.{width-le}
 use Rattle.clip.proofs.Swept.{Swept, swept-start, swept-entries, swept-ranges, skip-entry, skip-range, swept-cut}
@@ -150,6 +150,16 @@ pub piece-within : (z a b s t : ℕ) → RangeOf 29 z a b → t ≤ nHash 29 →
 piece-within z a b s t x u =
     let w : end 29 (x .depth) (x .hash) ≤ start 29 (x .depth) (x .hash) + 4 ^ 29 = width-le 29 (x .depth) (x .hash) in
     (omega arith, omega (arith, x .starts, x .ends))
+
+-- ---- a piece that is counted
+module _ (pass : Pass) (n a b r : ℕ) (v : Float) (zs : List ℕ) (vs : List Float) (is : pass ≡ Pass.Count) (into : CutInto 29 a b v r) where
+  pub counted-fits : CanCut pass n a b v zs vs → n + r < 2 ^ 64
+  counted-fits can =
+      let room : Room Pass.Count n (into .1) zs vs = rw is at (can (into .0) (into .1) (into .2)) in
+      omega (arith, room, into .4)
+
+  pub counted : IsCut pass n a b v zs vs (n + r) zs vs
+  counted = rw is (record { cells = into .1; place = into .0; cut = into .2; done = into .3; number = ap (λ (k : ℕ). n + k) (into .4); outcome = (refl, refl) })
 
 -- ---- an entry that lies in a range as a whole
 module _ (pass : Pass) (n z a b s t : ℕ) (v : Float) (zs : List ℕ) (vs : List Float) (x : RangeOf 29 z a b) (from : s ≤ a) (to : b ≤ t) where

@@ -1,7 +1,7 @@
 -- Note 6 of document 02: what the inner functions of clipping promise. A walk counts the cells, or writes them to two buffers.
 use mathlib.Core.Path.{_≡_}
 use mathlib.Core.List.{List, [], _∷_, _++_, map}
-use Prim.Native.Nat.{ℕ, _+_, _-_, _^_, _≤_, _<_}
+use Prim.Native.Nat.{ℕ, zero, suc, _+_, _/_, _%_, _-_, _^_, _≤_, _<_}
 use lib.Ieee.{Float}
 use lib.ListN.{length, take, set}
 use Rattle.zuniq.specs.Cells.{start, end}
@@ -26,6 +26,18 @@ LargestWidth K a b width = (d : ℕ) × (h : ℕ) × LargestAt K a b d h × (wid
 abbrev pub Cut : {A : Type 0} → ℕ → ℕ → ℕ → A → ℕ → List (Entry A) → Type 0
 Cut K a b v p [] = p ≡ a
 Cut K a b v p (e ∷ l) = LargestAt K a b (e .depth) (e .hash) × (e .value ≡ v) × Cut K (endOf K e) b v p l
+
+-- the piece from a to b is cut into n cells, of this value and of any
+abbrev pub CutInto : {A : Type 0} → ℕ → ℕ → ℕ → A → ℕ → Type 0
+CutInto {A} K a b v n = (p : ℕ) × (l : List (Entry A)) × Cut K a b v p l × (b ≤ p) × (n ≡ length l)
+
+abbrev pub IsCutInto : ℕ → ℕ → ℕ → ℕ → Type 0
+IsCutInto K a b n = (v : Float) → CutInto K a b v n
+
+-- the sum of the w lowest digits of n in base 4
+unfoldable pub digitSum : ℕ → ℕ → ℕ
+digitSum zero n = zero
+digitSum (suc w) n = n % 4 + digitSum w (n / 4)
 
 -- ---- counting and writing
 -- Behind n others the cells l are counted, which leaves the buffers as they are, or written.

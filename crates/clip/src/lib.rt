@@ -6,7 +6,8 @@
 // piece of the sky, which is cut from the left into the largest cells that fit.
 //
 // A call looks at everything before it writes anything: one pass over the map and one over the coverage
-// check them, then the walk counts the cells, and once more it writes them.
+// check them, then the walk counts the cells, and once more it writes them. To count, no piece is cut: how
+// many cells it comes to is told by the digits of two distances.
 //
 // Refused: a depth over 29 (number 1), paired buffers of two lengths, of the map, the coverage or the
 // output (4), an invalid map (5, place the entry), a density that is NaN, infinite or below 0 (6, place
@@ -22,7 +23,8 @@ ghost use Rattle.combine.specs.Slices.{Holds};
 ghost use Rattle.coverage.specs.Ranges.{rangesOf};
 ghost use Rattle.coverage.specs.Promises.{Parted, RangeOf};
 ghost use Rattle.clip.specs.Call.{clippedOf, clipInputRefusal, clipCall, firstOf};
-ghost use Rattle.clip.specs.Passes.{Outcome, Room, LargestWidth, CanCut, IsCut, CanKeep, Kept};
+ghost use Rattle.clip.specs.Passes.{Outcome, Room, LargestWidth, IsCutInto, digitSum, CanCut, IsCut, CanKeep, Kept};
+ghost use Rattle.clip.specs.declared.Pass.{Pass};
 use build::Check;
 use build::check_map;
 use build::free::clear_densities;
@@ -195,8 +197,8 @@ fn walk(
     n
 }
 
-// Cuts what an entry and a range of the coverage have in common. Most entries lie in a range as a whole,
-// or in none: those are one cell, or nothing.
+// Counts or writes the cells of what an entry and a range of the coverage have in common. Most entries lie
+// in a range as a whole, or in none: those are one cell, or nothing.
 fn clip_entry(
     zuniq: u64,
     cell: HashRange,
@@ -215,22 +217,47 @@ fn clip_entry(
     }
     let from = larger(cell.start, range.start);
     let to = smaller(cell.end, range.end);
-    cut(from, to, density, pass, zuniqs, densities, n)
+    match pass {
+        Pass::Count => n + count_cells(from, to),
+        Pass::Write => cut(from, to, density, zuniqs, densities, n),
+    }
+}
+
+// How many cells `cut` cuts a piece into. In between lies a place that divides by the width of the largest
+// of them. Up to there they grow, and from there on they shrink: on either side there are as many as the
+// digits of the distance to it, in base 4, add up to.
+fn count_cells(from: u64, to: u64) -> usize
+    requires { ⌜ (to ≤ nHash 29) × (to ≤ from + 4 ^ 29) ⌝ }
+    ensures { λ r. ⌜ IsCutInto 29 from to r ⌝ }
+{
+    if from >= to {
+        return 0;
+    }
+    let bits = 63 - u64::leading_zeros(to - from);
+    let shift = bits / 2 * 2;
+    let middle = to >> shift << shift;
+    (digit_sum(middle - from) + digit_sum(to - middle)) as usize
+}
+
+// The sum of a number's digits in base 4: all bits, and once more the higher one of each two.
+fn digit_sum(number: u64) -> u32
+    ensures { λ r. ⌜ r ≡ digitSum 32 number ⌝ }
+{
+    u64::count_ones(number) + u64::count_ones(number & 0xaaaa_aaaa_aaaa_aaaa)
 }
 
 // Cuts a piece of the sky, which lies in an entry, from the left into the largest cells that fit. Each has
-// the entry's density, and is counted or written behind n others. Answers the new number.
+// the entry's density, and is written behind n others. Answers the new number.
 fn cut(
     from: u64,
     to: u64,
     density: f64,
-    pass: Pass,
     zuniqs: &mut [u64],
     densities: &mut [f64],
     n: usize,
 ) -> usize
-    requires { ⌜ (to ≤ nHash 29) × (to ≤ from + 4 ^ 29) × CanCut pass n from to density (now zuniqs) (now densities) ⌝ }
-    ensures { λ r. ⌜ IsCut pass n from to density (now (zuniqs .entry)) (now (densities .entry)) r (now (zuniqs .exit)) (now (densities .exit)) ⌝ }
+    requires { ⌜ (to ≤ nHash 29) × (to ≤ from + 4 ^ 29) × CanCut Pass.Write n from to density (now zuniqs) (now densities) ⌝ }
+    ensures { λ r. ⌜ IsCut Pass.Write n from to density (now (zuniqs .entry)) (now (densities .entry)) r (now (zuniqs .exit)) (now (densities .exit)) ⌝ }
 {
     let mut n = n;
     let mut at = from;
@@ -238,7 +265,7 @@ fn cut(
         let width = largest_at(at, to);
         // A zuniq is the sum of its cell's start and end.
         let zuniq = 2 * at + width;
-        n = keep(pass, zuniq, density, zuniqs, densities, n);
+        n = keep(Pass::Write, zuniq, density, zuniqs, densities, n);
         at += width;
     }
     n

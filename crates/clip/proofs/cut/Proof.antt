@@ -1,6 +1,7 @@
 -- `cut` meets its contract. The invariant of its loop is `Cutting`; the measure is what is left of the piece. Assumes nothing.
 use Prim.Native.Nat.{_-_}
 use native.Mathlib.Omega.{arith}
+use Rattle.clip.specs.declared.Pass.{Pass}
 use Rattle.clip.proofs.Levels.{sky-is}
 use Rattle.clip.proofs.Walking.{Cutting, cutting-start, cutting-end, width-within, can-keep-here, cutting-on}
 use borrow.Author.Needs.{needs}
@@ -8,10 +9,10 @@ use Rattle.clip.proofs.cut.Statement.{statement}
 use Rattle.clip.proofs.cut.Tie as tie
 
 abbrev Inv-loop : tie.InvT-loop
-Inv-loop from to density pass zuniqs₀ densities₀ n n₀ at₀ zuniqs densities n' at = Cutting pass n from to density zuniqs₀ densities₀ zuniqs densities n' at
+Inv-loop from to density zuniqs₀ densities₀ n n₀ at₀ zuniqs densities n' at = Cutting Pass.Write n from to density zuniqs₀ densities₀ zuniqs densities n' at
 
 abbrev μ-loop : tie.MeasureT-loop
-μ-loop from to density pass zuniqs₀ densities₀ n n₀ at₀ zuniqs densities n' at = to - at
+μ-loop from to density zuniqs₀ densities₀ n n₀ at₀ zuniqs densities n' at = to - at
 
 loop-holds : tie.Need-loop-holds Inv-loop μ-loop
 loop-holds c = cutting-start _ _ _ _ _ _ _
