@@ -8,14 +8,14 @@ use Prim.Native.Nat.{ℕ, zero, suc, _+_, _*_, _/_, _%_, _-_, _^_, _≤_, _<_}
 use native.Mathlib.Nat.{pow-suc, pow-le-pow-right, mul-assoc, mul-comm, mul-le-mul-right, mul-div-cancel, div-one, div-div-eq-div-mul, le-div-iff-mul-le, div-lt-iff-lt-mul, mod-lt, eq-zero-or-pos}
 use native.Mathlib.Omega.{arith, by-contra}
 use lib.Bits.{bitAnd, and-step}
-use lib.Count.{leadingZeros, leading-top, ones, ones-step}
+use lib.Count.{leadingZeros, ones, ones-step}
 use lib.Pow.{pow-pos, pow-mono, split}
 use Rattle.zuniq.specs.Cells.{start, end}
 use Rattle.zuniq.proofs.Basics.{le-or-lt, four-pow-pos, four-pow-split, four-pow-two}
 use Rattle.build.specs.Map.{entry}
 use Rattle.coverage.proofs.Inside.{end-is-start-plus-width}
 use Rattle.clip.specs.Passes.{LargestAt, CutInto, digitSum}
-use Rattle.clip.proofs.Levels.{top-le, largest-at}
+use Rattle.clip.proofs.Levels.{top-le, top, bits-is, largest-at}
 
 -- ---- digits
 pub digits-none : (w : ℕ) → digitSum w 0 ≡ 0
@@ -216,25 +216,26 @@ module _ {A : Type 0} (b : ℕ) (v : A) where
 
 -- The place is the end, down to a multiple of the width that the distance between both ends leaves room for.
 module _ (a b : ℕ) (some : a < b) (base : b ≤ a + 4 ^ 29) (shift : ℕ) (is : shift ≡ (63 - leadingZeros 64 (b - a)) / 2 * 2) where
-  top : (j : ℕ) × (leadingZeros 64 (b - a) + suc j ≡ 64) × (2 ^ j ≤ b - a) × (b - a < 2 ^ suc j)
-  top = leading-top 64 (b - a) (omega arith) (omega arith)
+  -- its level, and its width
+  abbrev level : ℕ
+  level = top a b some base .0 / 2
 
-  shift-is : shift ≡ 2 * (top .0 / 2)
-  shift-is = omega (arith, top .1)
+  shift-is : shift ≡ 2 * level
+  shift-is = omega (arith, bits-is a b some base)
 
-  level-le : top .0 / 2 ≤ 29
-  level-le = omega (arith, top-le (top .0) (b - a) (top .2) (omega arith))
+  level-le : level ≤ 29
+  level-le = omega (arith, top-le (top a b some base .0) (b - a) (top a b some base .2) (omega arith))
 
-  width-is : 2 ^ shift ≡ 4 ^ (top .0 / 2)
-  width-is = ap (λ (x : ℕ). 2 ^ x) shift-is ∙ sym (four-pow-two (top .0 / 2))
+  width-is : 2 ^ shift ≡ 4 ^ level
+  width-is = ap (λ (x : ℕ). 2 ^ x) shift-is ∙ sym (four-pow-two level)
 
   width-le-piece : 2 ^ shift ≤ b - a
-  width-le-piece = let p : 2 ^ shift ≤ 2 ^ top .0 = pow-mono (omega (arith, shift-is)) in omega (arith, p, top .2)
+  width-le-piece = let p : 2 ^ shift ≤ 2 ^ top a b some base .0 = pow-mono (omega (arith, shift-is)) in omega (arith, p, top a b some base .2)
 
-  piece-lt-four : b < a + 4 ^ suc (top .0 / 2)
+  piece-lt-four : b < a + 4 ^ suc level
   piece-lt-four =
-      let p : 2 ^ suc (top .0) ≤ 2 ^ (2 * suc (top .0 / 2)) = pow-mono (omega arith) in
-      omega (arith, p, top .3, four-pow-two (suc (top .0 / 2)))
+      let p : 2 ^ suc (top a b some base .0) ≤ 2 ^ (2 * suc level) = pow-mono (omega arith) in
+      omega (arith, p, top a b some base .3, four-pow-two (suc level))
 
   within : (a < b / 2 ^ shift * 2 ^ shift) × (b / 2 ^ shift * 2 ^ shift ≤ b)
   within =
@@ -244,7 +245,7 @@ module _ (a b : ℕ) (some : a < b) (base : b ≤ a + 4 ^ 29) (shift : ℕ) (is 
 
   into : {A : Type 0} (v : A) → CutInto 29 a b v (digitSum 32 (b / 2 ^ shift * 2 ^ shift - a) + digitSum 32 (b - b / 2 ^ shift * 2 ^ shift))
   into v =
-      cut-up b v b a (b / 2 ^ shift * 2 ^ shift) (top .0 / 2) (b / 2 ^ shift) (omega arith) level-le (ap (λ (w : ℕ). b / 2 ^ shift * w) width-is) piece-lt-four base
+      cut-up b v b a (b / 2 ^ shift * 2 ^ shift) level (b / 2 ^ shift) (omega arith) level-le (ap (λ (w : ℕ). b / 2 ^ shift * w) width-is) piece-lt-four base
       (omega (arith, within .0)) (within .1)
 
 -- As two shifts give it.

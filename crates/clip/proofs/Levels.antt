@@ -67,14 +67,15 @@ pub top-le : (j x : ℕ) → 2 ^ j ≤ x → x ≤ 2 ^ 58 → j ≤ 58
 top-le j x u v = by-contra j 58 (λ l. let o : 2 ^ 59 ≤ 2 ^ j = pow-mono l in omega arith)
 
 module _ (a b : ℕ) (some : a < b) (base : b ≤ a + 4 ^ 29) where
-  top : (j : ℕ) × (leadingZeros 64 (b - a) + suc j ≡ 64) × (2 ^ j ≤ b - a) × (b - a < 2 ^ suc j)
+  -- The highest set bit of the piece's length.
+  pub top : (j : ℕ) × (leadingZeros 64 (b - a) + suc j ≡ 64) × (2 ^ j ≤ b - a) × (b - a < 2 ^ suc j)
   top = leading-top 64 (b - a) (omega arith) (omega arith)
 
   -- There is a set bit.
   pub zeros-le : leadingZeros 64 (b - a) ≤ 63
   zeros-le = omega (arith, top .1)
 
-  bits-is : 63 - leadingZeros 64 (b - a) ≡ top .0
+  pub bits-is : 63 - leadingZeros 64 (b - a) ≡ top .0
   bits-is = omega (arith, top .1)
 
   pub levels-within : (k : ℕ) → k ≡ min (trailingZeros 64 a) (63 - leadingZeros 64 (b - a)) / 2 → k ≤ 29

@@ -27,10 +27,11 @@ abbrev pub Cut : {A : Type 0} → ℕ → ℕ → ℕ → A → ℕ → List (En
 Cut K a b v p [] = p ≡ a
 Cut K a b v p (e ∷ l) = LargestAt K a b (e .depth) (e .hash) × (e .value ≡ v) × Cut K (endOf K e) b v p l
 
--- the piece from a to b is cut into n cells, of this value and of any
+-- the whole piece from a to b, cut so, is n cells of the value v
 abbrev pub CutInto : {A : Type 0} → ℕ → ℕ → ℕ → A → ℕ → Type 0
 CutInto {A} K a b v n = (p : ℕ) × (l : List (Entry A)) × Cut K a b v p l × (b ≤ p) × (n ≡ length l)
 
+-- it is n cells whatever their value: "space is judged by it", the number of cells
 abbrev pub IsCutInto : ℕ → ℕ → ℕ → ℕ → Type 0
 IsCutInto K a b n = (v : Float) → CutInto K a b v n
 
