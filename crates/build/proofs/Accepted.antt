@@ -16,7 +16,8 @@ use Rattle.merger.specs.Merge.{acceptCounts}
 use Rattle.merger.proofs.Accept.{accepted-count-is-sum}
 use Rattle.mom.specs.Map.{firstFault, ValidMap}
 use Rattle.build.specs.declared.counts.CountsAdded.{CountsAdded}
-use Rattle.build.specs.Map.{Entry, orElse}
+use Rattle.refusal.specs.Checks.{orElse}
+use Rattle.build.specs.Map.{Entry}
 use Rattle.build.specs.Buffers.{batch, readOnto, held, filled, zuniqOf, valueOf, zuniqBuffer, valueBuffer}
 use Rattle.build.specs.Calls.{Buffers, Batch, Answer, Calls, cells, answered, addCall}
 use Rattle.build.specs.Standing.{Stands, Rising, Added}
@@ -26,7 +27,8 @@ use Rattle.build.specs.Densities.{densityRefusal, densitiesRefusal}
 use Rattle.build.proofs.Adding.{run-total}
 use Rattle.build.proofs.Places.{fewer, held-suc, held-length, held-zuniqs, held-values}
 use Rattle.build.proofs.Filling.{sum-append}
-use Rattle.build.proofs.Checking.{or-else-none, grouped, settings-pass, lengths-pass, map-passes, space-passes, total-fits, cells-pass}
+use Rattle.refusal.proofs.Checks.{or-else-none}
+use Rattle.build.proofs.Checking.{grouped, settings-pass, lengths-pass, map-passes, space-passes, total-fits, cells-pass}
 
 pub record Accepted {A : Type 0} (bad : A → Bool) (K D m places values : ℕ) (zs hs : List ℕ) (xs : List A) : Type 0 where
   pub shallow : D ≤ K

@@ -14,34 +14,17 @@ use lib.Seq.{drop-cons}
 use borrow.Author.Tests.{leb-false, ltb-false, lt-ltb, le-ltb, eqb-true, not-false}
 use Rattle.zuniq.specs.Cells.{nHash}
 use Rattle.refusal.specs.declared.Refusal.{Refusal}
+use Rattle.refusal.proofs.Checks.{or-else-none, refused-if-none}
 use Rattle.zuniq.proofs.Basics.{le-or-lt}
 use Rattle.mom.specs.Map.{firstFault, ValidMap}
 use Rattle.mom.specs.declared.FirstFault.{FirstFault}
 use Rattle.mom.proofs.Faults.{no-fault-iff-valid}
-use Rattle.build.specs.Map.{orElse}
-use Rattle.build.specs.declared.Check.{Check}
+use Rattle.refusal.specs.Checks.{orElse, refusedIf, checkOf}
 use Rattle.build.specs.declared.HeldMap.{HeldMap}
 use Rattle.build.specs.declared.counts.Total.{Total}
-use Rattle.build.specs.Add.{refusedIf, checkOf, settingsRefusal, lengthsRefusal, mapRefusal, heldOr, cellRefusal, cellsRefusal, hashesRefusal, sumOf, cappedSum, sumRefusal, totalRefusal, spaceRefusal}
+use Rattle.build.specs.Add.{settingsRefusal, lengthsRefusal, mapRefusal, heldOr, cellRefusal, cellsRefusal, hashesRefusal, sumOf, cappedSum, sumRefusal, totalRefusal, spaceRefusal}
 use Rattle.build.specs.Standing.{Rising}
 use Rattle.build.specs.Counts.{totalOr, never}
-
--- What a check answers tells what it found.
-pub check-passed : (o : Option Refusal) → Check.Passed ≡ checkOf o → o ≡ none
-check-passed none e = refl
-check-passed (some r) e = let z : _≡_ {A = ℕ} 0 1 = cc in absurd (omega arith)
-
-pub check-refused : (o : Option Refusal) (r : Refusal) → Check.Refused r ≡ checkOf o → o ≡ some r
-check-refused none r e = let z : _≡_ {A = ℕ} 0 1 = cc in absurd (omega arith)
-check-refused (some s) r e = cc
-
--- A check that passes leaves it to the later ones,
-pub passes : {x : Check} (o p : Option Refusal) → x ≡ checkOf o → x ≡ Check.Passed → orElse o p ≡ p
-passes o p e q = rw (check-passed o (sym q ∙ e)) refl
-
--- and one that refuses settles it.
-pub refuses : {x : Check} {q : Refusal} (o p : Option Refusal) → x ≡ checkOf o → x ≡ Check.Refused q → orElse o p ≡ some q
-refuses {q = q} o p e k = rw (check-refused o q (sym k ∙ e)) refl
 
 -- Refusals in order may be tried in groups.
 pub grouped : (a b c d : Option Refusal) → orElse a (orElse b (orElse c d)) ≡ orElse (orElse a (orElse b c)) d
@@ -81,15 +64,6 @@ unfolding hashesRefusal
 hashes-end D least i hs p = rw (drop-of-length-le hs p) refl
 
 -- ---- what passing a check tells
--- Of two refusals in order there is none exactly if neither is.
-pub or-else-none : (a b : Option Refusal) → orElse a b ≡ none → (a ≡ none) × (b ≡ none)
-or-else-none none b e = (refl, e)
-or-else-none (some r) b e = let z : _≡_ {A = ℕ} 0 1 = cc in absurd (omega arith)
-
-pub refused-if-none : (t : Bool) (r : Refusal) → refusedIf t r ≡ none → t ≡ false
-refused-if-none true r e = let z : _≡_ {A = ℕ} 0 1 = cc in absurd (omega arith)
-refused-if-none false r e = refl
-
 pub or-false-both : (a b : Bool) → (a || b) ≡ false → (a ≡ false) × (b ≡ false)
 or-false-both true b e = absurd (true≢false e)
 or-false-both false b e = (refl, e)

@@ -11,14 +11,13 @@ use Rattle.refusal.specs.declared.Refusal.{Refusal}
 use Rattle.merger.specs.Floats.{0·0, invalidDensity}
 use Rattle.merger.specs.Merge.{acceptDensities}
 use Rattle.build.specs.declared.densities.DensitiesAdded.{DensitiesAdded}
-use Rattle.build.specs.Map.{orElse}
+use Rattle.refusal.specs.Checks.{orElse, refusedIf}
 use Rattle.build.specs.Buffers.{batch, held}
 use Rattle.build.specs.Calls.{Buffers, Answer}
 use Rattle.build.specs.Standing.{Added}
-use Rattle.build.specs.Add.{refusedIf}
 use Rattle.build.specs.Densities.{densityRefusal, densitiesRefusal, densityCalls, densitiesAdded, addDensities}
 use Rattle.build.proofs.Places.{held-length}
-use Rattle.build.proofs.Checking.{or-else-none}
+use Rattle.refusal.proofs.Checks.{or-else-none}
 use Rattle.build.proofs.Accepted.{Accepted, accepted, call-left}
 
 -- The densities from place i on: the one there, and those after it.

@@ -16,15 +16,17 @@ use Rattle.refusal.specs.declared.Refusal.{Refusal}
 use Rattle.zuniq.proofs.Codec.{cell, decodes}
 use Rattle.zuniq.proofs.Ranges.{start-le-iff, start-at-depth, end-is-next-start, valid-iff-end-le}
 use Rattle.mom.specs.Map.{ValidMap}
-use Rattle.build.specs.Map.{Entry, orElse}
+use Rattle.refusal.specs.Checks.{orElse, refusedIf}
+use Rattle.build.specs.Map.{Entry}
 use Rattle.build.specs.Buffers.{batch, laid, zuniqOf}
 use Rattle.build.specs.Promises.{Rises, Falls, lastEnd}
-use Rattle.build.specs.Add.{refusedIf, cellRefusal, cellsRefusal, cellEnd, mapEnd}
+use Rattle.build.specs.Add.{cellRefusal, cellsRefusal, cellEnd, mapEnd}
 use Rattle.build.specs.Counts.{countCalls}
 use Rattle.build.specs.Densities.{densityCalls}
 use Rattle.build.proofs.Rising.{falls-in-range}
 use Rattle.build.proofs.Buffers.{laid-cons, length-batch}
-use Rattle.build.proofs.Checking.{or-else-none, cell-passes}
+use Rattle.refusal.proofs.Checks.{or-else-none}
+use Rattle.build.proofs.Checking.{cell-passes}
 use Rattle.build.proofs.Accepted.{Accepted, counts-accepted}
 use Rattle.build.proofs.DensityCalls.{densities-accepted}
 use Rattle.build.proofs.Calls.{Fine, Sound}

@@ -13,18 +13,8 @@ use Rattle.zuniq.specs.declared.Decoded.{Decoded}
 use Rattle.mom.specs.Map.{firstFault}
 use Rattle.mom.specs.declared.FirstFault.{FirstFault}
 use Rattle.refusal.specs.declared.Refusal.{Refusal}
-use Rattle.build.specs.Map.{orElse}
-use Rattle.build.specs.declared.Check.{Check}
+use Rattle.refusal.specs.Checks.{orElse, refusedIf}
 use Rattle.build.specs.declared.HeldMap.{HeldMap}
-
-abbrev pub refusedIf : Bool → Refusal → Option Refusal
-refusedIf true r = some r
-refusedIf false r = none
-
--- what a check answers
-abbrev pub checkOf : Option Refusal → Check
-checkOf none = Check.Passed
-checkOf (some r) = Check.Refused r
 
 -- "1. The depth is over 29"; "2. M is over 29"; "3. T is NaN". Of row 1 note 1 of 02: "Number 1 then no longer covers a depth of 0", and
 -- note 2: "For narrow maps number 1 means a depth over 13": over K, the largest of the zuniq type. Note 2 leaves row 2 alone.

@@ -10,7 +10,8 @@ use Rattle.merger.specs.Merge.{acceptCounts}
 use Rattle.mom.specs.Map.{firstFault}
 use Rattle.build.specs.declared.counts.Total.{Total}
 use Rattle.build.specs.declared.counts.CountsAdded.{CountsAdded}
-use Rattle.build.specs.Map.{Entry, orElse}
+use Rattle.refusal.specs.Checks.{orElse}
+use Rattle.build.specs.Map.{Entry}
 use Rattle.build.specs.Promises.{total}
 use Rattle.build.specs.Calls.{Answer, Calls, addCall}
 use Rattle.build.specs.Add.{settingsRefusal, lengthsRefusal, mapRefusal, mapEnd, cellsRefusal, sumOf, totalRefusal, spaceRefusal}

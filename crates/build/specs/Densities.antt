@@ -9,9 +9,9 @@ use Rattle.merger.specs.Floats.{0·0, invalidDensity}
 use Rattle.merger.specs.Merge.{acceptDensities}
 use Rattle.mom.specs.Map.{firstFault}
 use Rattle.build.specs.declared.densities.DensitiesAdded.{DensitiesAdded}
-use Rattle.build.specs.Map.{orElse}
+use Rattle.refusal.specs.Checks.{orElse, refusedIf}
 use Rattle.build.specs.Calls.{Answer, Calls, addCall}
-use Rattle.build.specs.Add.{refusedIf, settingsRefusal, lengthsRefusal, mapRefusal, mapEnd, cellsRefusal, spaceRefusal}
+use Rattle.build.specs.Add.{settingsRefusal, lengthsRefusal, mapRefusal, mapEnd, cellsRefusal, spaceRefusal}
 
 -- "6. A held or given density is NaN, infinite or below 0; place: the entry", for the densities from place i on
 unfoldable pub densityRefusal : ℕ → List Float → Option Refusal

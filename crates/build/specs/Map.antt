@@ -5,6 +5,7 @@ use mathlib.Core.List.{List, [], _∷_, _++_}
 use mathlib.Core.Option.{Option, none, some}
 use Prim.Native.Nat.{ℕ, zero, suc}
 use lib.Dec.{eqb}
+use Rattle.refusal.specs.Checks.{orElse}
 use Rattle.zuniq.specs.Cells.{childHash}
 
 -- a cell with its value
@@ -33,10 +34,6 @@ joined (suc n) g = joined n g ++ g n
 unfoldable pub listed : {A : Type 0} → List (Entry A) → ℕ → ℕ → Option A
 listed [] d h = none
 listed (e ∷ l) d h = cond (isCell d h e) (some (e .value)) (listed l d h)
-
-abbrev pub orElse : {A : Type 0} → Option A → Option A → Option A
-orElse (some x) y = some x
-orElse none y = y
 
 -- the cell (d, h) alone, if it has a value
 abbrev pub itselfOr : {A : Type 0} → ℕ → ℕ → Option A → List (Entry A) → List (Entry A)

@@ -18,10 +18,12 @@ ghost use lib.ListN.{length, getD, take};
 ghost use Rattle.zuniq.specs.Codec.{IsZuniqOf};
 ghost use Rattle.mom.specs.Map.{firstFault, ValidMap};
 ghost use Rattle.build.specs.Standing.{quadAt, siblingsFrom};
-ghost use Rattle.build.specs.Add.{settingsRefusal, lengthsRefusal, cellRefusal, checkOf, mapRefusal, heldRefusal, heldOr, mapEnd, spaceRefusal};
+ghost use Rattle.refusal.specs.Checks.{checkOf};
+ghost use Rattle.build.specs.Add.{settingsRefusal, lengthsRefusal, cellRefusal, mapRefusal, heldRefusal, heldOr, mapEnd, spaceRefusal};
 use merger::is_nan;
 use mom::FirstFault;
 use mom::first_fault;
+use refusal::Check;
 use refusal::Refusal;
 use zuniq::Decoded;
 use zuniq::Zuniq64;
@@ -29,12 +31,6 @@ use zuniq::Zuniq64;
 pub mod counts;
 pub mod densities;
 pub mod free;
-
-// Whether a call passes a check.
-pub enum Check {
-    Passed,
-    Refused(Refusal),
-}
 
 // Where the held map of an add call ends, as a hash of its depth, or why the call is refused.
 pub enum HeldMap {

@@ -25,11 +25,12 @@ use Rattle.mom.specs.Told.{toldCheck, toldContaining, toldRun}
 use Rattle.mom.specs.declared.FirstFault.{FirstFault}
 use Rattle.mom.specs.declared.lookup.Containing.{Containing}
 use Rattle.mom.specs.declared.lookup.Run.{Run}
-use Rattle.build.specs.Map.{Entry, orElse}
+use Rattle.refusal.specs.Checks.{orElse, refusedIf}
+use Rattle.build.specs.Map.{Entry}
 use Rattle.build.specs.Stack.{run}
 use Rattle.build.specs.Buffers.{batch, held}
 use Rattle.build.specs.Calls.{Buffers, Calls, answered, addCall}
-use Rattle.build.specs.Add.{refusedIf, settingsRefusal, lengthsRefusal, mapRefusal, mapEnd, cellsRefusal, sumOf, totalRefusal, spaceRefusal}
+use Rattle.build.specs.Add.{settingsRefusal, lengthsRefusal, mapRefusal, mapEnd, cellsRefusal, sumOf, totalRefusal, spaceRefusal}
 use Rattle.build.specs.Counts.{totalOf, never, countsRefusal, Report, countCalls, countsAdded, addCounts}
 use Rattle.build.specs.Densities.{densityRefusal, densitiesRefusal, densityCalls, densitiesAdded, addDensities}
 use Rattle.build.specs.Told.{toldCounts, toldDensities}

@@ -4,9 +4,8 @@ use mathlib.Core.Option.{Option}
 use Prim.Native.Nat.{ℕ}
 use lib.Dec.{eqb, ltb}
 use Rattle.refusal.specs.declared.Refusal.{Refusal}
-use Rattle.build.specs.Map.{orElse}
+use Rattle.refusal.specs.Checks.{orElse, refusedIf}
 use Rattle.build.specs.Calls.{Calls}
-use Rattle.build.specs.Add.{refusedIf}
 
 -- ---- before note 1
 -- "1. The depth is over 29, or is 0 in an add call"

@@ -14,12 +14,13 @@ use Rattle.refusal.specs.declared.Refusal.{Refusal}
 use Rattle.zuniq.specs.Cells.{nHash}
 use Rattle.merger.specs.Floats.{0·0}
 use Rattle.mom.specs.Map.{ValidMap, firstFault}
-use Rattle.build.specs.Map.{orElse}
+use Rattle.refusal.specs.Checks.{orElse, refusedIf, checkOf}
+use Rattle.refusal.proofs.Checks.{check-passed, check-refused, passes, refuses, or-else-none, refused-if-none}
 use Rattle.build.specs.Buffers.{zuniqOf, valueOf}
-use Rattle.build.specs.Add.{refusedIf, checkOf, mapRefusal}
+use Rattle.build.specs.Add.{mapRefusal}
 use Rattle.build.specs.Densities.{densityRefusal}
-use Rattle.build.specs.declared.Check.{Check}
-use Rattle.build.proofs.Checking.{check-passed, check-refused, passes, refuses, or-else-none, refused-if-none, or-false-both, map-passes}
+use Rattle.refusal.specs.declared.Check.{Check}
+use Rattle.build.proofs.Checking.{or-false-both, map-passes}
 use Rattle.combine.specs.Slices.{entriesOf, Holds}
 use Rattle.combine.specs.Pool.{Given, pairsRefusal, placesRefusal}
 use Rattle.combine.proofs.Given.{entries-rise}

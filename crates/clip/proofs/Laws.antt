@@ -20,7 +20,7 @@ use Rattle.build.specs.Map.{Entry}
 use Rattle.build.specs.Buffers.{zuniqOf, valueOf}
 use Rattle.build.specs.Add.{mapRefusal}
 use Rattle.build.specs.Densities.{densityRefusal}
-use Rattle.build.proofs.Checking.{or-else-none}
+use Rattle.refusal.proofs.Checks.{or-else-none}
 use Rattle.build.proofs.Rising.{rises-in-range}
 use Rattle.combine.specs.Slices.{entriesOf}
 use Rattle.combine.specs.Pool.{Given, entries, pairsRefusal, placesRefusal}

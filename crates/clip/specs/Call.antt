@@ -10,11 +10,12 @@ use Rattle.refusal.specs.declared.Refusal.{Refusal}
 use Rattle.zuniq.specs.Cells.{nHash}
 use Rattle.merger.specs.Floats.{0·0}
 use Rattle.mom.specs.Map.{firstFault}
-use Rattle.build.specs.Map.{Entry, orElse}
+use Rattle.refusal.specs.Checks.{orElse, refusedIf}
+use Rattle.build.specs.Map.{Entry}
 use Rattle.build.specs.Buffers.{zuniqOf, valueOf}
-use Rattle.build.specs.Add.{refusedIf, mapRefusal}
+use Rattle.build.specs.Add.{mapRefusal}
 use Rattle.build.specs.Densities.{densityRefusal}
-use Rattle.build.specs.declared.Check.{Check}
+use Rattle.refusal.specs.declared.Check.{Check}
 use Rattle.combine.specs.Slices.{entriesOf}
 use Rattle.combine.specs.Pool.{Given, pairsRefusal, placesRefusal}
 use Rattle.coverage.specs.Ranges.{rangesOf, padded, rangesRefusal}

@@ -15,7 +15,8 @@ use Rattle.build.specs.Map.{Merger, definedMap}
 use Rattle.build.specs.Promises.{Rises}
 use Rattle.build.specs.Add.{mapRefusal}
 use Rattle.build.proofs.Order.{defined-map-deeper}
-use Rattle.build.proofs.Checking.{or-else-none, refused-if-none, or-false-both, map-passes}
+use Rattle.refusal.proofs.Checks.{or-else-none, refused-if-none}
+use Rattle.build.proofs.Checking.{or-false-both, map-passes}
 use Rattle.combine.specs.Overlay.{Split, overlay}
 use Rattle.combine.specs.Rules.{Rule, kept, combined}
 use Rattle.combine.specs.Slices.{Holds}

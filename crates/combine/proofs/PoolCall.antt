@@ -24,7 +24,7 @@ use Rattle.build.specs.Counts.{totalOf, Report, countCalls, countsAdded}
 use Rattle.build.specs.declared.counts.CountsAdded.{CountsAdded}
 use Rattle.build.proofs.Entries.{total-reverse}
 use Rattle.build.proofs.Places.{held-length}
-use Rattle.build.proofs.Checking.{or-else-none, refused-if-none}
+use Rattle.refusal.proofs.Checks.{or-else-none, refused-if-none}
 use Rattle.build.proofs.Accepted.{map-left}
 use Rattle.combine.specs.Overlay.{overlay}
 use Rattle.combine.specs.Rules.{kept, splitCount, poolRule, definedPool}

@@ -11,14 +11,15 @@ use borrow.Author.Tests.{lt-ltb, le-ltb}
 use Rattle.refusal.specs.declared.Refusal.{Refusal}
 use Rattle.merger.specs.Floats.{0·0}
 use Rattle.merger.specs.Merge.{acceptDensities}
-use Rattle.build.specs.Map.{Entry, orElse}
+use Rattle.refusal.specs.Checks.{orElse}
+use Rattle.build.specs.Map.{Entry}
 use Rattle.build.specs.Buffers.{held, readOnto}
 use Rattle.build.specs.Calls.{Buffers, Answer}
 use Rattle.build.specs.Standing.{Added}
 use Rattle.build.specs.Densities.{densityCalls, densitiesAdded}
 use Rattle.build.specs.declared.densities.DensitiesAdded.{DensitiesAdded}
 use Rattle.build.proofs.Places.{held-length}
-use Rattle.build.proofs.Checking.{or-else-none}
+use Rattle.refusal.proofs.Checks.{or-else-none}
 use Rattle.build.proofs.Accepted.{map-left}
 use Rattle.combine.specs.Overlay.{overlay}
 use Rattle.combine.specs.Rules.{kept, copyDensity, productRule, definedProduct}

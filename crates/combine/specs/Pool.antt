@@ -11,9 +11,10 @@ use Rattle.refusal.specs.declared.Refusal.{Refusal}
 use Rattle.merger.specs.Floats.{invalidDensity}
 use Rattle.merger.specs.Merge.{acceptCounts, acceptDensities}
 use Rattle.mom.specs.Map.{firstFault}
-use Rattle.build.specs.Map.{Entry, orElse}
+use Rattle.refusal.specs.Checks.{orElse, refusedIf}
+use Rattle.build.specs.Map.{Entry}
 use Rattle.build.specs.Calls.{answered}
-use Rattle.build.specs.Add.{refusedIf, mapRefusal, sumOf}
+use Rattle.build.specs.Add.{mapRefusal, sumOf}
 use Rattle.build.specs.Counts.{countCalls, countsAdded}
 use Rattle.build.specs.Densities.{densityRefusal, densityCalls, densitiesAdded}
 use Rattle.build.specs.declared.counts.CountsAdded.{CountsAdded}

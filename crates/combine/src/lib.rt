@@ -6,12 +6,12 @@
 // both, what a walk is made of, and the checks that they share.
 ghost use mathlib.Core.Path.{_≡_};
 ghost use Rattle.mom.specs.Map.{firstFault};
-ghost use Rattle.build.specs.Map.{orElse};
-ghost use Rattle.build.specs.Add.{checkOf, mapRefusal};
+ghost use Rattle.refusal.specs.Checks.{orElse, checkOf};
+ghost use Rattle.build.specs.Add.{mapRefusal};
 ghost use Rattle.combine.specs.Pool.{settingsRefusal, pairsRefusal};
-use build::Check;
 use build::check_map;
 use merger::is_nan;
+use refusal::Check;
 use refusal::Refusal;
 use zuniq::Zuniq64;
 

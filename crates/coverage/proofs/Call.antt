@@ -9,10 +9,11 @@ use lib.ListN.{length, take, replicate, length-map}
 use borrow.Author.Tests.{lt-ltb, le-ltb, eqb-true, not-false}
 use Rattle.refusal.specs.declared.Refusal.{Refusal}
 use Rattle.mom.specs.Map.{ValidMap, firstFault}
-use Rattle.build.specs.Map.{orElse}
-use Rattle.build.specs.Add.{refusedIf, checkOf, mapRefusal}
-use Rattle.build.specs.declared.Check.{Check}
-use Rattle.build.proofs.Checking.{or-else-none, refused-if-none, map-passes, check-passed, check-refused}
+use Rattle.refusal.specs.Checks.{orElse, refusedIf, checkOf}
+use Rattle.refusal.proofs.Checks.{check-passed, check-refused, or-else-none, refused-if-none}
+use Rattle.build.specs.Add.{mapRefusal}
+use Rattle.refusal.specs.declared.Check.{Check}
+use Rattle.build.proofs.Checking.{map-passes}
 use Rattle.coverage.specs.Ranges.{padded, fromOf, toOf}
 use Rattle.coverage.specs.Coverage.{coverageOf, coverageInputRefusal, coverageRefusal, coverageCall}
 use Rattle.coverage.specs.Promises.{Stand}

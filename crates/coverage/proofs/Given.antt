@@ -14,9 +14,9 @@ use lib.Seq.{drop-cons}
 use borrow.Author.Tests.{le-ltb, lt-leb, ltb-true, ltb-false, leb-true, leb-false}
 use Rattle.refusal.specs.declared.Refusal.{Refusal}
 use Rattle.zuniq.proofs.Basics.{or-is-true}
-use Rattle.build.specs.Map.{orElse}
-use Rattle.build.specs.Add.{refusedIf}
-use Rattle.build.proofs.Checking.{or-else-none, refused-if-none, or-false-both}
+use Rattle.refusal.specs.Checks.{orElse, refusedIf}
+use Rattle.refusal.proofs.Checks.{or-else-none, refused-if-none}
+use Rattle.build.proofs.Checking.{or-false-both}
 use Rattle.coverage.specs.Ranges.{Range, range, rangesOf, rangesRefusal}
 use Rattle.coverage.specs.Promises.{Parted}
 

@@ -7,8 +7,8 @@ use Prim.Native.Nat.{ℕ}
 use lib.ListN.{length, take, length-map}
 use lib.Seq.{take-append-seam}
 use Rattle.refusal.specs.declared.Refusal.{Refusal}
-use Rattle.build.specs.Add.{refusedIf}
-use Rattle.build.proofs.Checking.{or-else-none}
+use Rattle.refusal.specs.Checks.{refusedIf}
+use Rattle.refusal.proofs.Checks.{or-else-none}
 use Rattle.coverage.specs.Ranges.{Range, rangesOf, padded, fromOf, toOf}
 use Rattle.coverage.specs.Coverage.{coverageOf, coverageInputRefusal, coverageRefusal, coveredOr, coverageCall}
 use Rattle.coverage.specs.Promises.{WritesCoverage}

@@ -11,8 +11,8 @@ use Rattle.zuniq.specs.Cells.{start, end}
 use Rattle.zuniq.specs.Codec.{decode}
 use Rattle.zuniq.specs.declared.Decoded.{Decoded}
 use Rattle.mom.specs.Map.{firstFault}
-use Rattle.build.specs.Map.{orElse}
-use Rattle.build.specs.Add.{refusedIf, mapRefusal}
+use Rattle.refusal.specs.Checks.{orElse, refusedIf}
+use Rattle.build.specs.Add.{mapRefusal}
 use Rattle.coverage.specs.Ranges.{Range, range, joinTouching, padded, fromOf, toOf}
 use Rattle.coverage.specs.declared.Covered.{Covered}
 

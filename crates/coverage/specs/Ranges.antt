@@ -7,8 +7,7 @@ use lib.Dec.{eqb, leb, ltb}
 use lib.ListN.{length, replicate}
 use Rattle.refusal.specs.declared.Refusal.{Refusal}
 use Rattle.zuniq.specs.Cells.{start}
-use Rattle.build.specs.Map.{orElse}
-use Rattle.build.specs.Add.{refusedIf}
+use Rattle.refusal.specs.Checks.{orElse, refusedIf}
 
 -- "half-open": from its first hash to below its end
 pub record Range : Type 0 where

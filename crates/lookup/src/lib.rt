@@ -107,7 +107,7 @@ pub fn is_overlapped(query: ZuniqRange, zuniq: u64) -> bool
 
 // A place between an entry below the query and one that is not: where the zuniqs rise, the number
 // of entries below it.
-fn lower_bound(zuniqs: &[u64], zuniq: u64) -> usize
+pub fn lower_bound(zuniqs: &[u64], zuniq: u64) -> usize
     ensures { λ r. ⌜ LowerBound (now (zuniqs .entry)) «zuniq» r ⌝ }
 {
     let mut lo = 0;

@@ -1,7 +1,8 @@
--- Blank sky, note 4 of 02: the count merger merges four counts of 0 from parent depth M on, whatever T is, and in all else it is the
--- former merger, `mergeByChi`. Assumes nothing.
+-- Blank sky, note 4 of 02: the count merger merges four counts of 0 from parent depth M on, whatever T is and whether or not the parent is
+-- protected, and in all else, where no parent is protected, it is the former merger, `mergeByChi`. Assumes nothing.
 use mathlib.Core.Path.{_≡_, refl, sym, ap, _∙_, fun-ext}
 use mathlib.Core.Bool.{Bool, true, false, _&&_, cond, and-false}
+use mathlib.Core.List.{List, []}
 use mathlib.Core.Logic.{_⊎_, inl, inr, ⊎-map}
 use Prim.Native.Nat.{ℕ, _+_, _≤_, _<_}
 use native.Mathlib.Omega.{arith}
@@ -9,6 +10,8 @@ use lib.Dec.{eqb, leb}
 use lib.Ieee.{Float, lt}
 use borrow.Author.Tests.{le-leb, lt-leb, eq-eqb, ne-eqb, eqb-true}
 use Rattle.zuniq.proofs.Basics.{and-is-true, is-false, le-or-lt}
+use Rattle.protection.specs.Protected.{isProtected}
+use Rattle.protection.proofs.Listed.{nothing-protected}
 use Rattle.merger.specs.Floats.{0·0}
 use Rattle.merger.specs.Merge.{merges, chiOfCounts, mergeByChi, blank, mergeCounts, mergedCount, acceptCounts, acceptByChi}
 use Rattle.merger.specs.declared.CountMerge.{CountMerge}
@@ -45,44 +48,48 @@ no-blank M p n0 n1 n2 n3 (inr e) = rw e (and-false (leb M p))
 pub chi-of-blank : chiOfCounts 0 0 0 0 ≡ 0·0
 chi-of-blank = unfold lib.Ieee.ofInt in chi-of-zero 0 0 0 0 (omega arith) (inr refl)
 
-module _ (M : ℕ) (T : Float) (p h : ℕ) where
+-- The former merger merged four counts of 0 where T is above 0.
+former-blank : (M : ℕ) (T : Float) (p h : ℕ) → M ≤ p → lt 0·0 T ≡ true → mergeByChi M T p h 0 0 0 0 ≡ CountMerge.Merged 0
+unfolding mergeByChi
+former-blank M T p h l t = rw (chi-of-blank, le-leb M p l, t)
+
+module _ (K : ℕ) (P : List ℕ) (M : ℕ) (T : Float) (p h : ℕ) where
   -- ---- four counts of 0
   -- "Four siblings of count 0 now merge at any T, where the parent depth is at least M."
-  pub blank-merges : M ≤ p → mergeCounts M T p h 0 0 0 0 ≡ CountMerge.Merged 0
+  pub blank-merges : M ≤ p → mergeCounts K P M T p h 0 0 0 0 ≡ CountMerge.Merged 0
   unfolding mergeCounts
   blank-merges l = rw (le-leb M p l)
 
   -- Below M they are kept, with chi 0.
-  pub blank-kept-below-M : p < M → mergeCounts M T p h 0 0 0 0 ≡ CountMerge.Kept 0·0
+  pub blank-kept-below-M : p < M → mergeCounts K P M T p h 0 0 0 0 ≡ CountMerge.Kept 0·0
   unfolding mergeCounts mergeByChi
-  blank-kept-below-M l = rw (lt-leb M p l, chi-of-blank)
+  blank-kept-below-M l = rw (lt-leb M p l, chi-of-blank) (go (isProtected K P p h))
+    where
+      go : (b : Bool) → cond b (CountMerge.Kept 0·0) (CountMerge.Kept 0·0) ≡ CountMerge.Kept 0·0
+      go true = refl
+      go false = refl
 
-  -- The former merger merged them where T is above 0.
-  former-blank : M ≤ p → lt 0·0 T ≡ true → mergeByChi M T p h 0 0 0 0 ≡ CountMerge.Merged 0
-  unfolding mergeByChi
-  former-blank l t = rw (chi-of-blank, le-leb M p l, t)
-
-  module _ (n0 n1 n2 n3 : ℕ) where
+  module _ (free : isProtected K P p h ≡ false) (n0 n1 n2 n3 : ℕ) where
     -- ---- all else is as before
     -- What chi has merged is merged to the sum, blank or not.
-    pub merged-by-chi : merges M T p (chiOfCounts n0 n1 n2 n3) ≡ true → mergeCounts M T p h n0 n1 n2 n3 ≡ CountMerge.Merged (n0 + n1 + n2 + n3)
+    pub merged-by-chi : merges M T p (chiOfCounts n0 n1 n2 n3) ≡ true → mergeCounts K P M T p h n0 n1 n2 n3 ≡ CountMerge.Merged (n0 + n1 + n2 + n3)
     unfolding mergeCounts mergeByChi
-    merged-by-chi t = rw t (go (leb M p && blank n0 n1 n2 n3) (λ e. sum-of-blank n0 n1 n2 n3 (and-is-true (leb M p) (blank n0 n1 n2 n3) e .1)))
+    merged-by-chi t = rw (free, t) (go (leb M p && blank n0 n1 n2 n3) (λ e. sum-of-blank n0 n1 n2 n3 (and-is-true (leb M p) (blank n0 n1 n2 n3) e .1)))
       where
         go : (b : Bool) → (b ≡ true → n0 + n1 + n2 + n3 ≡ 0) → cond b (CountMerge.Merged 0) (CountMerge.Merged (n0 + n1 + n2 + n3)) ≡ CountMerge.Merged (n0 + n1 + n2 + n3)
         go true z = ap (λ (n : ℕ). CountMerge.Merged n) (sym (z refl))
         go false z = refl
 
     -- Below M, and with a count above 0 among the four, the answer is the former one.
-    pub as-before : (p < M) ⊎ (0 < n0 + n1 + n2 + n3) → mergeCounts M T p h n0 n1 n2 n3 ≡ mergeByChi M T p h n0 n1 n2 n3
+    pub as-before : (p < M) ⊎ (0 < n0 + n1 + n2 + n3) → mergeCounts K P M T p h n0 n1 n2 n3 ≡ mergeByChi M T p h n0 n1 n2 n3
     unfolding mergeCounts
-    as-before s = rw (no-blank M p n0 n1 n2 n3 (⊎-map (λ l. l) (not-blank n0 n1 n2 n3) s))
+    as-before s = rw (no-blank M p n0 n1 n2 n3 (⊎-map (λ l. l) (not-blank n0 n1 n2 n3) s), free)
 
     -- So it is wherever T is above 0.
-    pub as-before-above-0 : lt 0·0 T ≡ true → mergeCounts M T p h n0 n1 n2 n3 ≡ mergeByChi M T p h n0 n1 n2 n3
+    pub as-before-above-0 : lt 0·0 T ≡ true → mergeCounts K P M T p h n0 n1 n2 n3 ≡ mergeByChi M T p h n0 n1 n2 n3
     as-before-above-0 t = go (le-or-lt M p) (le-or-lt (n0 + n1 + n2 + n3) 0)
       where
-        go : (M ≤ p) ⊎ (p < M) → (n0 + n1 + n2 + n3 ≤ 0) ⊎ (0 < n0 + n1 + n2 + n3) → mergeCounts M T p h n0 n1 n2 n3 ≡ mergeByChi M T p h n0 n1 n2 n3
+        go : (M ≤ p) ⊎ (p < M) → (n0 + n1 + n2 + n3 ≤ 0) ⊎ (0 < n0 + n1 + n2 + n3) → mergeCounts K P M T p h n0 n1 n2 n3 ≡ mergeByChi M T p h n0 n1 n2 n3
         go (inr l) s = as-before (inl l)
         go (inl d) (inr l) = as-before (inr l)
         go (inl d) (inl z) =
@@ -90,10 +97,10 @@ module _ (M : ℕ) (T : Float) (p h : ℕ) where
             let e1 : n1 ≡ 0 = omega (arith, z) in
             let e2 : n2 ≡ 0 = omega (arith, z) in
             let e3 : n3 ≡ 0 = omega (arith, z) in
-            rw (e0, e1, e2, e3) (blank-merges d ∙ sym (former-blank d t))
+            rw (e0, e1, e2, e3) (blank-merges d ∙ sym (former-blank M T p h d t))
 
--- Wherever T is above 0, then, every map and every pool is the former one: what they are handed is the same function.
-pub accepts-as-before : (M : ℕ) (T : Float) → lt 0·0 T ≡ true → acceptCounts M T ≡ acceptByChi M T
+-- Wherever T is above 0 and nothing is protected, then, every map and every pool is the former one: what they are handed is the same function.
+pub accepts-as-before : (K M : ℕ) (T : Float) → lt 0·0 T ≡ true → acceptCounts K [] M T ≡ acceptByChi M T
 unfolding acceptCounts acceptByChi
-accepts-as-before M T t =
-    fun-ext (λ p. fun-ext (λ h. fun-ext (λ n0. fun-ext (λ n1. fun-ext (λ n2. fun-ext (λ n3. ap mergedCount (as-before-above-0 M T p h n0 n1 n2 n3 t)))))))
+accepts-as-before K M T t =
+    fun-ext (λ p. fun-ext (λ h. fun-ext (λ n0. fun-ext (λ n1. fun-ext (λ n2. fun-ext (λ n3. ap mergedCount (as-before-above-0 K [] M T p h (nothing-protected K p h) n0 n1 n2 n3 t)))))))

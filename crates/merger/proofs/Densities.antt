@@ -1,7 +1,8 @@
 -- A merged density is finite and not below 0 where the four are. Their sum may overflow to infinity, but then chi is infinite
 -- or a NaN, which is below no T, and the four are kept. Assumes nothing.
 use mathlib.Core.Path.{_≡_, refl, sym, _∙_}
-use mathlib.Core.Bool.{Bool, true, false, _&&_, cond, true≢false, false≢true}
+use mathlib.Core.Bool.{Bool, true, false, _&&_, not, cond, true≢false, false≢true}
+use mathlib.Core.List.{List}
 use mathlib.Core.Option.{some}
 use Prim.Native.Nat.{ℕ, zero, suc, _+_, _-_, _*_, _%_, _≤_, _<_, _^_, zero-le}
 use native.Mathlib.Nat.{zero-mul, mul-one, mul-assoc, mul-pos, le-of-lt, zero-lt-suc}
@@ -15,6 +16,8 @@ use lib.Ieee.Fits.{up-pos, down-pos, and-r, add-fits}
 use lib.Ieee.Order.{round-mono}
 use lib.Ieee.Scale.{finite}
 use Rattle.zuniq.specs.Cells.{nHash}
+use Rattle.zuniq.proofs.Basics.{and-is-true}
+use Rattle.protection.specs.Protected.{isProtected}
 use Rattle.merger.specs.Floats.{_⊕_, _⊖_, _⊘_, float, 4·0, invalidDensity}
 use Rattle.merger.specs.Merge.{sumOf, unitDensity, chiOfDensitiesWith, chiOfDensities, acceptDensities}
 use Rattle.merger.proofs.Floats.{HasSign, round-sign, round-zero, plus-over}
@@ -179,10 +182,10 @@ finite-or-infinite (inf false) h n = n refl
 finite-or-infinite (fin s m e) h n = tt
 
 -- A merged density is valid where the four are.
-pub accepted-density-valid : (M : ℕ) (T : Float) (p h : ℕ) (m0 m1 m2 m3 m : Float) → invalidDensity m0 ≡ false → invalidDensity m1 ≡ false → invalidDensity m2 ≡ false → invalidDensity m3 ≡ false
-    → acceptDensities M T p h m0 m1 m2 m3 ≡ some m → invalidDensity m ≡ false
-accepted-density-valid M T p h m0 m1 m2 m3 m v0 v1 v2 v3 a =
-    let e = accept-densities-iff M T p h m0 m1 m2 m3 m .0 a in
+pub accepted-density-valid : (P : List ℕ) (M : ℕ) (T : Float) (p h : ℕ) (m0 m1 m2 m3 m : Float) → invalidDensity m0 ≡ false → invalidDensity m1 ≡ false → invalidDensity m2 ≡ false → invalidDensity m3 ≡ false
+    → acceptDensities P M T p h m0 m1 m2 m3 ≡ some m → invalidDensity m ≡ false
+accepted-density-valid P M T p h m0 m1 m2 m3 m v0 v1 v2 v3 a =
+    let e = accept-densities-iff P M T p h m0 m1 m2 m3 m .0 a in
     let s = sumOf m0 m1 m2 m3 in
     let not-below : NotBelow0 s = sum-not-below-0 m0 m1 m2 m3 (valid-not-below-0 m0 v0) (valid-not-below-0 m1 v1) (valid-not-below-0 m2 v2) (valid-not-below-0 m3 v3) in
-    rw (← e .2) (quarter-valid s (add-fits binary64 ((m0 ⊕ m1) ⊕ m2) m3) not-below (finite-or-infinite s not-below (λ i. false≢true (sym (infinite-sum-kept p T m0 m1 m2 m3 i) ∙ e .1))))
+    rw (← e .2) (quarter-valid s (add-fits binary64 ((m0 ⊕ m1) ⊕ m2) m3) not-below (finite-or-infinite s not-below (λ i. false≢true (sym (infinite-sum-kept p T m0 m1 m2 m3 i) ∙ and-is-true (not (isProtected 29 P p h)) _ (e .1) .1))))

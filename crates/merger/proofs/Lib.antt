@@ -3,3 +3,5 @@ pub mod Accept
 pub mod Blank
 pub mod Counts
 pub mod Densities
+pub mod Protected
+pub mod Quads

@@ -1,12 +1,15 @@
--- Section 2 of the scope, and note 4 of 02: what the two mergers make of four children. "M (0 to 29) is the shallowest parent depth at which
--- merging is allowed; T is an f64." p and h are the parent's depth and hash; no rule looks at h.
+-- Section 2 of the scope, and notes 4 and 7 of 02: what the two mergers make of four children. "M (0 to 29) is the shallowest parent depth
+-- at which merging is allowed; T is an f64." p and h are the parent's depth and hash, P the protected parents: zuniqs of the largest depth K.
 use mathlib.Core.Bool.{Bool, _&&_, cond}
+use mathlib.Core.List.{List}
 use mathlib.Core.Option.{Option, none, some}
 use Prim.Native.Nat.{ℕ, _+_}
 use lib.Dec.{eqb, leb, ltb}
 use lib.Ieee.{Float, isNan, lt}
-use Rattle.zuniq.specs.Cells.{nHash}
+use Rattle.refusal.specs.Checks.{orElse, refusedIf}
 use Rattle.refusal.specs.declared.Refusal.{Refusal}
+use Rattle.zuniq.specs.Cells.{nHash}
+use Rattle.protection.specs.Protected.{isProtected, protectedRefusal}
 use Rattle.merger.specs.Floats.{_⊕_, _⊖_, _⊗_, _⊘_, float, 1·0, 4·0, π, max, invalidDensity}
 use Rattle.merger.specs.declared.CountMerge.{CountMerge}
 use Rattle.merger.specs.declared.DensityMerge.{DensityMerge}
@@ -30,6 +33,16 @@ excess sum w = sum ⊖ 4·0 ⊗ (4·0 ⊘ w)
 abbrev pub merges : (M : ℕ) (T : Float) (p : ℕ) (chi : Float) → Bool
 merges M T p chi = leb M p && lt chi T
 
+-- the refusals that both merger calls have, in the order of the table. 1: "in a merger call the parent depth is 29"; 2; 3; note 7 of 02:
+-- 15, "tried after 3"; "A merger call now takes the parent's hash too, 7 if out of range"
+unfoldable pub quadRefusal : (P : List ℕ) (M : ℕ) (T : Float) (p h : ℕ) → Option Refusal
+quadRefusal P M T p h =
+    orElse (refusedIf (ltb 28 p) Refusal.DepthOutOfRange)
+    (orElse (refusedIf (ltb 29 M) Refusal.DepthThresholdOutOfRange)
+    (orElse (refusedIf (isNan T) Refusal.Chi2ThresholdIsNan)
+    (orElse (protectedRefusal 29 P)
+    (refusedIf (leb (nHash p) h) (Refusal.HashOutOfRange 0)))))
+
 -- ---- counts
 -- "chi = sum − 4×(4/w). A zero makes w infinite and chi = sum", by `w-infinite` and `chi-of-zero` of proofs/Counts
 unfoldable pub chiOfCounts : (n0 n1 n2 n3 : ℕ) → Float
@@ -46,9 +59,13 @@ mergeByChi M T p h n0 n1 n2 n3 =
 abbrev pub blank : (n0 n1 n2 n3 : ℕ) → Bool
 blank n0 n1 n2 n3 = eqb n0 0 && (eqb n1 0 && (eqb n2 0 && eqb n3 0))
 
--- they "now merge at any T, where the parent depth is at least M"; all else is merged by chi, as ever
-unfoldable pub mergeCounts : (M : ℕ) (T : Float) (p h n0 n1 n2 n3 : ℕ) → CountMerge
-mergeCounts M T p h n0 n1 n2 n3 = cond (leb M p && blank n0 n1 n2 n3) (CountMerge.Merged 0) (mergeByChi M T p h n0 n1 n2 n3)
+-- they "now merge at any T, where the parent depth is at least M"; all else is merged by chi, as ever. Note 7: "A quad whose parent is
+-- listed is kept, though blank quads of Note 4 merge first."
+unfoldable pub mergeCounts : (K : ℕ) (P : List ℕ) (M : ℕ) (T : Float) (p h n0 n1 n2 n3 : ℕ) → CountMerge
+mergeCounts K P M T p h n0 n1 n2 n3 =
+    cond (leb M p && blank n0 n1 n2 n3) (CountMerge.Merged 0)
+    (cond (isProtected K P p h) (CountMerge.Kept (chiOfCounts n0 n1 n2 n3))
+    (mergeByChi M T p h n0 n1 n2 n3))
 
 -- the count of a merge, if there is one
 unfoldable pub mergedCount : CountMerge → Option ℕ
@@ -56,21 +73,22 @@ mergedCount (CountMerge.Merged n) = some n
 mergedCount (CountMerge.Kept chi) = none
 
 -- "the merger accepts their values": the parent's count, or none
-unfoldable pub acceptCounts : (M : ℕ) (T : Float) (p h n0 n1 n2 n3 : ℕ) → Option ℕ
-acceptCounts M T p h n0 n1 n2 n3 = mergedCount (mergeCounts M T p h n0 n1 n2 n3)
+unfoldable pub acceptCounts : (K : ℕ) (P : List ℕ) (M : ℕ) (T : Float) (p h n0 n1 n2 n3 : ℕ) → Option ℕ
+acceptCounts K P M T p h n0 n1 n2 n3 = mergedCount (mergeCounts K P M T p h n0 n1 n2 n3)
 
 -- the same of the merger before note 4, against which its laws are said
 unfoldable pub acceptByChi : (M : ℕ) (T : Float) (p h n0 n1 n2 n3 : ℕ) → Option ℕ
 acceptByChi M T p h n0 n1 n2 n3 = mergedCount (mergeByChi M T p h n0 n1 n2 n3)
 
--- the count merger, refused by 1, 2, 3 and 10
-unfoldable pub countMerger : (M : ℕ) (T : Float) (p n0 n1 n2 n3 : ℕ) → CountMerger
-countMerger M T p n0 n1 n2 n3 =
-    cond (ltb 28 p) (CountMerger.Refused Refusal.DepthOutOfRange)
-    (cond (ltb 29 M) (CountMerger.Refused Refusal.DepthThresholdOutOfRange)
-    (cond (isNan T) (CountMerger.Refused Refusal.Chi2ThresholdIsNan)
-    (cond (ltb 4294967295 (n0 + n1 + n2 + n3)) (CountMerger.Refused (Refusal.CountOverflow 0))
-    (CountMerger.Answer (mergeCounts M T p 0 n0 n1 n2 n3)))))
+-- the count merger, refused by those of both and by 10
+abbrev pub countMergerOr : Option Refusal → CountMerge → CountMerger
+countMergerOr (some r) m = CountMerger.Refused r
+countMergerOr none m = CountMerger.Answer m
+
+unfoldable pub countMerger : (P : List ℕ) (M : ℕ) (T : Float) (p h n0 n1 n2 n3 : ℕ) → CountMerger
+countMerger P M T p h n0 n1 n2 n3 =
+    countMergerOr (orElse (quadRefusal P M T p h) (refusedIf (ltb 4294967295 (n0 + n1 + n2 + n3)) (Refusal.CountOverflow 0)))
+    (mergeCounts 29 P M T p h n0 n1 n2 n3)
 
 -- ---- densities
 -- "c = N(p)/π"
@@ -82,17 +100,22 @@ unfoldable pub chiOfDensitiesWith : (c m0 m1 m2 m3 : Float) → Float
 chiOfDensitiesWith c m0 m1 m2 m3 = excess (sumOf m0 m1 m2 m3) (wOf (max m0 c) (max m1 c) (max m2 c) (max m3 c)) ⊘ c
 
 -- "parent density sum/4"; "The merger answers either the merged density or that the four are kept, carrying the chi it found"
-unfoldable pub mergeDensitiesWith : (c : Float) (M : ℕ) (T : Float) (p h : ℕ) (m0 m1 m2 m3 : Float) → DensityMerge
-mergeDensitiesWith c M T p h m0 m1 m2 m3 =
+unfoldable pub mergeDensitiesByChi : (c : Float) (M : ℕ) (T : Float) (p h : ℕ) (m0 m1 m2 m3 : Float) → DensityMerge
+mergeDensitiesByChi c M T p h m0 m1 m2 m3 =
     let chi = chiOfDensitiesWith c m0 m1 m2 m3 in
     cond (merges M T p chi) (DensityMerge.Merged (sumOf m0 m1 m2 m3 ⊘ 4·0)) (DensityMerge.Kept chi)
+
+-- note 7 of 02: "A quad whose parent is listed is kept"
+unfoldable pub mergeDensitiesWith : (c : Float) (P : List ℕ) (M : ℕ) (T : Float) (p h : ℕ) (m0 m1 m2 m3 : Float) → DensityMerge
+mergeDensitiesWith c P M T p h m0 m1 m2 m3 =
+    cond (isProtected 29 P p h) (DensityMerge.Kept (chiOfDensitiesWith c m0 m1 m2 m3)) (mergeDensitiesByChi c M T p h m0 m1 m2 m3)
 
 -- "Densities at parent depth p: c = N(p)/π"
 abbrev pub chiOfDensities : (p : ℕ) (m0 m1 m2 m3 : Float) → Float
 chiOfDensities p m0 m1 m2 m3 = chiOfDensitiesWith (unitDensity p) m0 m1 m2 m3
 
-abbrev pub mergeDensities : (M : ℕ) (T : Float) (p h : ℕ) (m0 m1 m2 m3 : Float) → DensityMerge
-mergeDensities M T p h m0 m1 m2 m3 = mergeDensitiesWith (unitDensity p) M T p h m0 m1 m2 m3
+abbrev pub mergeDensities : (P : List ℕ) (M : ℕ) (T : Float) (p h : ℕ) (m0 m1 m2 m3 : Float) → DensityMerge
+mergeDensities P M T p h m0 m1 m2 m3 = mergeDensitiesWith (unitDensity p) P M T p h m0 m1 m2 m3
 
 -- the density of a merge, if there is one
 unfoldable pub mergedDensity : DensityMerge → Option Float
@@ -100,8 +123,8 @@ mergedDensity (DensityMerge.Merged m) = some m
 mergedDensity (DensityMerge.Kept chi) = none
 
 -- "the merger accepts their values": the parent's density, or none
-unfoldable pub acceptDensities : (M : ℕ) (T : Float) (p h : ℕ) (m0 m1 m2 m3 : Float) → Option Float
-acceptDensities M T p h m0 m1 m2 m3 = mergedDensity (mergeDensities M T p h m0 m1 m2 m3)
+unfoldable pub acceptDensities : (P : List ℕ) (M : ℕ) (T : Float) (p h : ℕ) (m0 m1 m2 m3 : Float) → Option Float
+acceptDensities P M T p h m0 m1 m2 m3 = mergedDensity (mergeDensities P M T p h m0 m1 m2 m3)
 
 -- 9: "one of a merger's four, is NaN, infinite or below 0; place: the .. child", here 4 if none is
 unfoldable pub firstInvalid : (m0 m1 m2 m3 : Float) → ℕ
@@ -112,11 +135,12 @@ firstInvalid m0 m1 m2 m3 =
     (cond (invalidDensity m3) 3
     4)))
 
--- the density merger, refused by 1, 2, 3 and 9
-unfoldable pub densityMerger : (M : ℕ) (T : Float) (p : ℕ) (m0 m1 m2 m3 : Float) → DensityMerger
-densityMerger M T p m0 m1 m2 m3 =
-    cond (ltb 28 p) (DensityMerger.Refused Refusal.DepthOutOfRange)
-    (cond (ltb 29 M) (DensityMerger.Refused Refusal.DepthThresholdOutOfRange)
-    (cond (isNan T) (DensityMerger.Refused Refusal.Chi2ThresholdIsNan)
-    (cond (ltb (firstInvalid m0 m1 m2 m3) 4) (DensityMerger.Refused (Refusal.InvalidDensity (firstInvalid m0 m1 m2 m3)))
-    (DensityMerger.Answer (mergeDensities M T p 0 m0 m1 m2 m3)))))
+-- the density merger, refused by those of both and by 9
+abbrev pub densityMergerOr : Option Refusal → DensityMerge → DensityMerger
+densityMergerOr (some r) m = DensityMerger.Refused r
+densityMergerOr none m = DensityMerger.Answer m
+
+unfoldable pub densityMerger : (P : List ℕ) (M : ℕ) (T : Float) (p h : ℕ) (m0 m1 m2 m3 : Float) → DensityMerger
+densityMerger P M T p h m0 m1 m2 m3 =
+    densityMergerOr (orElse (quadRefusal P M T p h) (refusedIf (ltb (firstInvalid m0 m1 m2 m3) 4) (Refusal.InvalidDensity (firstInvalid m0 m1 m2 m3))))
+    (mergeDensities P M T p h m0 m1 m2 m3)

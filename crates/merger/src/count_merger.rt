@@ -1,47 +1,52 @@
 // The count merger.
 ghost use mathlib.Core.Path.{_≡_};
-ghost use Prim.Native.Nat.{_+_, _≤_};
+ghost use Prim.Native.Nat.{_+_, _≤_, _<_};
+ghost use Rattle.zuniq.specs.Cells.{nHash};
+ghost use Rattle.protection.specs.Protected.{RisingList};
 ghost use Rattle.merger.specs.Merge.{chiOfCounts, blank, mergeCounts, countMerger};
 use super::CountMerge;
 use super::CountMerger;
-use super::MAX_PARENT_DEPTH;
-use super::is_nan;
+use super::check_quad;
 use super::merges;
 use super::sum_of;
+use protection::is_protected;
+use refusal::Check;
 use refusal::Refusal;
-use zuniq::Zuniq64;
 
 const MAX_COUNT: u64 = 4_294_967_295;
 
-// The source's `new_chi2_count_merger_with_depth_threshold`, called on the four counts.
+// The source's `new_chi2_count_merger_with_depth_threshold`, called on a parent and its four counts.
 pub fn chi2_count_merger(
     parent_depth: u8,
+    parent_hash: u64,
     depth_threshold: u8,
     chi2_threshold: f64,
+    protected: &[u64],
     n0: u32,
     n1: u32,
     n2: u32,
     n3: u32,
 ) -> CountMerger
-    ensures { λ r. ⌜ r ≡ countMerger «depth_threshold» «chi2_threshold» «parent_depth» n0 n1 n2 n3 ⌝ }
+    ensures { λ r. ⌜ r ≡ countMerger (now (protected .entry)) «depth_threshold» «chi2_threshold» «parent_depth» «parent_hash» n0 n1 n2 n3 ⌝ }
 {
-    if parent_depth > MAX_PARENT_DEPTH {
-        return CountMerger::Refused(Refusal::DepthOutOfRange);
-    }
-    if depth_threshold > Zuniq64::MAX_DEPTH {
-        return CountMerger::Refused(Refusal::DepthThresholdOutOfRange);
-    }
-    if is_nan(chi2_threshold) {
-        return CountMerger::Refused(Refusal::Chi2ThresholdIsNan);
+    if let Check::Refused(refusal) = check_quad(
+        parent_depth,
+        parent_hash,
+        depth_threshold,
+        chi2_threshold,
+        protected,
+    ) {
+        return CountMerger::Refused(refusal);
     }
     if n0 as u64 + n1 as u64 + n2 as u64 + n3 as u64 > MAX_COUNT {
         return CountMerger::Refused(Refusal::CountOverflow(0));
     }
     CountMerger::Answer(merge_counts(
         parent_depth,
-        0,
+        parent_hash,
         depth_threshold,
         chi2_threshold,
+        protected,
         n0,
         n1,
         n2,
@@ -49,25 +54,29 @@ pub fn chi2_count_merger(
     ))
 }
 
-// The count merger for four counts whose sum fits a u32. Blank sky is merged at any T: its chi-square
-// is 0, and a T of 0 or less would keep it. It is looked for last, among what would be kept, so that
-// who merges by the chi-square pays nothing for it.
+// The count merger for four counts whose sum fits a u32. The list is searched only for what the
+// chi-square would merge. Blank sky is merged at any T and under a protected parent: its chi-square is
+// 0, and a T of 0 or less would keep it. It is looked for last, among what would be kept, so that who
+// merges by the chi-square pays nothing for it.
 pub fn merge_counts(
     parent_depth: u8,
     parent_hash: u64,
     depth_threshold: u8,
     chi2_threshold: f64,
+    protected: &[u64],
     n0: u32,
     n1: u32,
     n2: u32,
     n3: u32,
 ) -> CountMerge
-    requires { ⌜ n0 + n1 + n2 + n3 ≤ 4294967295 ⌝ }
-    ensures { λ r. ⌜ r ≡ mergeCounts «depth_threshold» «chi2_threshold» «parent_depth» «parent_hash» n0 n1 n2 n3 ⌝ }
+    requires { ⌜ (n0 + n1 + n2 + n3 ≤ 4294967295) × («parent_depth» ≤ 29) × («parent_hash» < nHash «parent_depth») × RisingList (now protected) ⌝ }
+    ensures { λ r. ⌜ r ≡ mergeCounts 29 (now (protected .entry)) «depth_threshold» «chi2_threshold» «parent_depth» «parent_hash» n0 n1 n2 n3 ⌝ }
 {
     let chi2 = chi2_of_counts(n0, n1, n2, n3);
     if merges(parent_depth, depth_threshold, chi2_threshold, chi2) {
-        return CountMerge::Merged(n0 + n1 + n2 + n3);
+        if !is_protected(protected, parent_depth, parent_hash) {
+            return CountMerge::Merged(n0 + n1 + n2 + n3);
+        }
     }
     if parent_depth >= depth_threshold && are_blank(n0, n1, n2, n3) {
         return CountMerge::Merged(0);
@@ -76,7 +85,7 @@ pub fn merge_counts(
 }
 
 // Whether there is no source in any of the four. Most quads are told by the first.
-fn are_blank(n0: u32, n1: u32, n2: u32, n3: u32) -> bool
+pub(crate) fn are_blank(n0: u32, n1: u32, n2: u32, n3: u32) -> bool
     requires { ⌜ n0 + n1 + n2 + n3 ≤ 4294967295 ⌝ }
     ensures { λ r. ⌜ r ≡ blank n0 n1 n2 n3 ⌝ }
 {
@@ -88,7 +97,7 @@ fn are_blank(n0: u32, n1: u32, n2: u32, n3: u32) -> bool
 // 1 / n_i, and
 //     chi2 = sum of (n_i - 4 / w)^2 / n_i = (sum of n_i) - 4 * (4 / w).
 // A zero makes w infinite and chi2 the sum.
-fn chi2_of_counts(n0: u32, n1: u32, n2: u32, n3: u32) -> f64
+pub(crate) fn chi2_of_counts(n0: u32, n1: u32, n2: u32, n3: u32) -> f64
     ensures { λ r. ⌜ r ≡ chiOfCounts n0 n1 n2 n3 ⌝ }
 {
     let mu0 = n0 as f64;

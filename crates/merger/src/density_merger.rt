@@ -1,41 +1,45 @@
 // The density merger.
 ghost use mathlib.Core.Path.{_≡_};
-ghost use Prim.Native.Nat.{_≤_};
+ghost use Prim.Native.Nat.{_≤_, _<_};
+ghost use Rattle.zuniq.specs.Cells.{nHash};
+ghost use Rattle.protection.specs.Protected.{RisingList};
 ghost use Rattle.merger.specs.Floats.{_⊘_, float, π, max, invalidDensity};
 ghost use Rattle.merger.specs.Merge.{chiOfDensitiesWith, mergeDensitiesWith, mergeDensities, firstInvalid, densityMerger};
 use super::DensityMerge;
 use super::DensityMerger;
-use super::MAX_PARENT_DEPTH;
-use super::is_nan;
+use super::check_quad;
 use super::merges;
 use super::sum_of;
+use protection::is_protected;
+use refusal::Check;
 use refusal::Refusal;
-use zuniq::Zuniq64;
 use zuniq::n_hash_unchecked;
 
 // The f64 with bits 400921FB54442D18.
 const PI: f64 = 3.141592653589793;
 
-// The source's `new_chi2_density_merger`, called on the four densities.
+// The source's `new_chi2_density_merger`, called on a parent and its four densities.
 pub fn chi2_density_merger(
     parent_depth: u8,
+    parent_hash: u64,
     depth_threshold: u8,
     chi2_threshold: f64,
+    protected: &[u64],
     m0: f64,
     m1: f64,
     m2: f64,
     m3: f64,
 ) -> DensityMerger
-    ensures { λ r. ⌜ r ≡ densityMerger «depth_threshold» «chi2_threshold» «parent_depth» m0 m1 m2 m3 ⌝ }
+    ensures { λ r. ⌜ r ≡ densityMerger (now (protected .entry)) «depth_threshold» «chi2_threshold» «parent_depth» «parent_hash» m0 m1 m2 m3 ⌝ }
 {
-    if parent_depth > MAX_PARENT_DEPTH {
-        return DensityMerger::Refused(Refusal::DepthOutOfRange);
-    }
-    if depth_threshold > Zuniq64::MAX_DEPTH {
-        return DensityMerger::Refused(Refusal::DepthThresholdOutOfRange);
-    }
-    if is_nan(chi2_threshold) {
-        return DensityMerger::Refused(Refusal::Chi2ThresholdIsNan);
+    if let Check::Refused(refusal) = check_quad(
+        parent_depth,
+        parent_hash,
+        depth_threshold,
+        chi2_threshold,
+        protected,
+    ) {
+        return DensityMerger::Refused(refusal);
     }
     let child = first_invalid(m0, m1, m2, m3);
     if child < 4 {
@@ -43,9 +47,10 @@ pub fn chi2_density_merger(
     }
     DensityMerger::Answer(merge_densities(
         parent_depth,
-        0,
+        parent_hash,
         depth_threshold,
         chi2_threshold,
+        protected,
         m0,
         m1,
         m2,
@@ -78,13 +83,14 @@ fn merge_densities(
     parent_hash: u64,
     depth_threshold: u8,
     chi2_threshold: f64,
+    protected: &[u64],
     m0: f64,
     m1: f64,
     m2: f64,
     m3: f64,
 ) -> DensityMerge
-    requires { ⌜ «parent_depth» ≤ 29 ⌝ }
-    ensures { λ r. ⌜ r ≡ mergeDensities «depth_threshold» «chi2_threshold» «parent_depth» «parent_hash» m0 m1 m2 m3 ⌝ }
+    requires { ⌜ («parent_depth» ≤ 29) × («parent_hash» < nHash «parent_depth») × RisingList (now protected) ⌝ }
+    ensures { λ r. ⌜ r ≡ mergeDensities (now (protected .entry)) «depth_threshold» «chi2_threshold» «parent_depth» «parent_hash» m0 m1 m2 m3 ⌝ }
 {
     merge_densities_with(
         unit_density(n_hash_unchecked(parent_depth)),
@@ -92,6 +98,7 @@ fn merge_densities(
         parent_hash,
         depth_threshold,
         chi2_threshold,
+        protected,
         m0,
         m1,
         m2,
@@ -99,23 +106,28 @@ fn merge_densities(
     )
 }
 
-// The same with c, for callers that merge many quads of one depth: it takes a division.
+// The same with c, for callers that merge many quads of one depth: it takes a division. The list is
+// searched only for what the chi-square would merge.
 pub fn merge_densities_with(
     c: f64,
     parent_depth: u8,
     parent_hash: u64,
     depth_threshold: u8,
     chi2_threshold: f64,
+    protected: &[u64],
     m0: f64,
     m1: f64,
     m2: f64,
     m3: f64,
 ) -> DensityMerge
-    ensures { λ r. ⌜ r ≡ mergeDensitiesWith c «depth_threshold» «chi2_threshold» «parent_depth» «parent_hash» m0 m1 m2 m3 ⌝ }
+    requires { ⌜ («parent_depth» ≤ 29) × («parent_hash» < nHash «parent_depth») × RisingList (now protected) ⌝ }
+    ensures { λ r. ⌜ r ≡ mergeDensitiesWith c (now (protected .entry)) «depth_threshold» «chi2_threshold» «parent_depth» «parent_hash» m0 m1 m2 m3 ⌝ }
 {
     let chi2 = chi2_of_densities(c, m0, m1, m2, m3);
     if merges(parent_depth, depth_threshold, chi2_threshold, chi2) {
-        return DensityMerge::Merged(sum_of(m0, m1, m2, m3) / 4.0);
+        if !is_protected(protected, parent_depth, parent_hash) {
+            return DensityMerge::Merged(sum_of(m0, m1, m2, m3) / 4.0);
+        }
     }
     DensityMerge::Kept(chi2)
 }

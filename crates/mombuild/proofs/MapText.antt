@@ -26,7 +26,8 @@ use Rattle.build.proofs.Adding.{run-total}
 use Rattle.build.proofs.Law.{run-gives-defined-map}
 use Rattle.build.proofs.DefinedMap.{defined-map-in-range}
 use Rattle.build.proofs.Buffers.{take-filled}
-use Rattle.build.proofs.Checking.{or-else-none, cell-passes}
+use Rattle.refusal.proofs.Checks.{or-else-none}
+use Rattle.build.proofs.Checking.{cell-passes}
 use Rattle.build.proofs.Accepted.{counts-accepted, batch-total}
 use Rattle.mombuild.specs.Mombuild.{reading, readable, thousandths, answerText, mapText, places, mombuild}
 use Rattle.map_text.specs.Lines.{entryText, entriesText, endText}

@@ -18,9 +18,10 @@ use Rattle.zuniq.proofs.Codec.{cell, decodes}
 use Rattle.mom.specs.Map.{firstFault, ValidMap}
 use Rattle.mom.proofs.Faults.{no-fault-iff-valid}
 use Rattle.mom.proofs.Valid.{valid-deeper}
-use Rattle.build.specs.Map.{orElse}
-use Rattle.build.specs.Add.{refusedIf, mapRefusal}
-use Rattle.build.proofs.Checking.{or-else-none, refused-if-none, map-passes}
+use Rattle.refusal.specs.Checks.{orElse, refusedIf}
+use Rattle.build.specs.Add.{mapRefusal}
+use Rattle.refusal.proofs.Checks.{or-else-none, refused-if-none}
+use Rattle.build.proofs.Checking.{map-passes}
 use Rattle.moving.specs.Moving.{isDeeper, deepRefusal, entriesRefusal, DeepAt, FirstDeep}
 
 -- ---- row 5

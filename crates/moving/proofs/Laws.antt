@@ -13,10 +13,12 @@ use borrow.Author.Tests.{ltb-false, le-ltb, eq-eqb}
 use Rattle.refusal.specs.declared.Refusal.{Refusal}
 use Rattle.mom.specs.Map.{firstFault}
 use Rattle.mom.specs.declared.FirstFault.{FirstFault}
-use Rattle.build.specs.Map.{Entry, orElse}
+use Rattle.refusal.specs.Checks.{orElse, refusedIf}
+use Rattle.build.specs.Map.{Entry}
 use Rattle.build.specs.Buffers.{held}
-use Rattle.build.specs.Add.{refusedIf, lengthsRefusal, mapRefusal, spaceRefusal}
-use Rattle.build.proofs.Checking.{refused-if-none, lengths-pass, map-passes}
+use Rattle.build.specs.Add.{lengthsRefusal, mapRefusal, spaceRefusal}
+use Rattle.refusal.proofs.Checks.{refused-if-none}
+use Rattle.build.proofs.Checking.{lengths-pass, map-passes}
 use Rattle.moving.specs.declared.Moved.{Moved}
 use Rattle.moving.specs.Moving.{deepRefusal, entriesRefusal, movingRefusal, movedOr, moved, Acceptable, DeepAt, FirstDeep}
 use Rattle.moving.proofs.Deep.{deep-first, deep-passes, map-not-refused}

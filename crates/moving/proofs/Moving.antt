@@ -11,9 +11,11 @@ use Rattle.zuniq.specs.Codec.{zuniq}
 use Rattle.mom.specs.Map.{ValidMap}
 use Rattle.build.specs.Map.{Entry}
 use Rattle.build.specs.Buffers.{held, laid, filled, zuniqOf, valueOf, zuniqBuffer, valueBuffer}
-use Rattle.build.specs.Add.{checkOf, lengthsRefusal, spaceRefusal}
-use Rattle.build.specs.declared.Check.{Check}
-use Rattle.build.proofs.Checking.{check-refused, or-else-none, refused-if-none, lengths-pass, space-passes}
+use Rattle.refusal.specs.Checks.{checkOf}
+use Rattle.refusal.proofs.Checks.{check-refused, or-else-none, refused-if-none}
+use Rattle.build.specs.Add.{lengthsRefusal, spaceRefusal}
+use Rattle.refusal.specs.declared.Check.{Check}
+use Rattle.build.proofs.Checking.{lengths-pass, space-passes}
 use Rattle.build.proofs.Buffers.{length-laid, take-filled}
 use Rattle.moving.specs.declared.Moved.{Moved}
 use Rattle.moving.specs.Moving.{entriesRefusal, movingRefusal, movedOr, moved, Moves}

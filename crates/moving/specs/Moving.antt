@@ -12,9 +12,10 @@ use Rattle.refusal.specs.declared.Refusal.{Refusal}
 use Rattle.zuniq.specs.Codec.{IsZuniqOf, decode}
 use Rattle.zuniq.specs.declared.Decoded.{Decoded}
 use Rattle.mom.specs.Map.{firstFault, ValidMap}
-use Rattle.build.specs.Map.{Entry, orElse}
+use Rattle.refusal.specs.Checks.{orElse, refusedIf}
+use Rattle.build.specs.Map.{Entry}
 use Rattle.build.specs.Buffers.{held, zuniqBuffer, valueBuffer}
-use Rattle.build.specs.Add.{refusedIf, lengthsRefusal, mapRefusal, spaceRefusal}
+use Rattle.build.specs.Add.{lengthsRefusal, mapRefusal, spaceRefusal}
 use Rattle.moving.specs.declared.Moved.{Moved}
 
 -- ---- the refusals

@@ -111,7 +111,7 @@ pub fn is_overlapped(query: ZuniqRange, zuniq: u32) -> bool
 
 // A place between an entry below the query and one that is not: where the zuniqs rise, the number
 // of entries below it.
-fn lower_bound(zuniqs: &[u32], zuniq: u32) -> usize
+pub fn lower_bound(zuniqs: &[u32], zuniq: u32) -> usize
     ensures { λ r. ⌜ LowerBound (now (zuniqs .entry)) «zuniq» r ⌝ }
 {
     let mut lo = 0;

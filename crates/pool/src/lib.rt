@@ -11,7 +11,6 @@ ghost use Rattle.build.specs.Counts.{totalOf, totalOr};
 ghost use Rattle.combine.specs.Slices.{entriesOf, Holds};
 ghost use Rattle.combine.specs.Counts.{poolCells};
 ghost use Rattle.combine.specs.Pool.{Given, poolInputRefusal, sumsRefusal, placesRefusal, poolOver, poolCounts};
-use build::Check;
 use build::counts::CountsAdded;
 use build::counts::Total;
 use build::free::clear_counts;
@@ -21,6 +20,7 @@ use combine::Pass;
 use combine::check_maps;
 use combine::check_pairs;
 use combine::check_settings;
+use refusal::Check;
 use refusal::Refusal;
 use walk::pool_cells;
 

@@ -6,13 +6,11 @@
 // walked once to count its cells and try their products, and once more to merge them.
 ghost use mathlib.Core.Path.{_≡_};
 ghost use lib.ListN.{length};
-ghost use Rattle.build.specs.Map.{orElse};
-ghost use Rattle.build.specs.Add.{checkOf};
+ghost use Rattle.refusal.specs.Checks.{orElse, checkOf};
 ghost use Rattle.build.specs.Densities.{densityRefusal};
 ghost use Rattle.combine.specs.Slices.{entriesOf, Holds};
 ghost use Rattle.combine.specs.Densities.{productCells};
 ghost use Rattle.combine.specs.Pool.{Given, factorRefusal, productInputRefusal, finiteRefusal, placesRefusal, productOver, productDensities};
-use build::Check;
 use build::densities::DensitiesAdded;
 use build::free::clear_densities;
 use build::free::clear_zuniqs;
@@ -23,6 +21,7 @@ use combine::check_pairs;
 use combine::check_settings;
 use combine::densities::Cells;
 use merger::invalid_density;
+use refusal::Check;
 use refusal::Refusal;
 use walk::product_cells;
 

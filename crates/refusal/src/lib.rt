@@ -4,8 +4,8 @@ ghost use mathlib.Core.Path.{_≡_};
 ghost use Rattle.refusal.specs.Refusals.{numberOf, placeOf};
 
 // A case for each thing that can be wrong, in checking order. A case that has a place holds it:
-// the entry of a map, the range of a coverage, the cell of a batch, the child of a merger's four, the
-// query of a test's two.
+// the parent of a list, the entry of a map, the range of a coverage, the cell of a batch, the child of a
+// merger's four, the query of a test's two.
 pub enum Refusal {
     // The depth is over the largest, or a merger's parent depth is the largest.
     DepthOutOfRange,
@@ -15,6 +15,8 @@ pub enum Refusal {
     Chi2ThresholdIsNan,
     // k, the factor of a product, is NaN, infinite or below 0.
     InvalidFactor,
+    // This listed parent is not a valid zuniq, or not above the one before.
+    InvalidProtected(usize),
     // Paired buffers differ in length, a stated number exceeds its buffer, row bytes are uneven, or a
     // row length is not named.
     LengthMismatch,
@@ -42,6 +44,12 @@ pub enum Refusal {
     InvalidQuery(usize),
 }
 
+// Whether a call passes a check.
+pub enum Check {
+    Passed,
+    Refused(Refusal),
+}
+
 impl Refusal {
     // The number that the scope's table of refusals gives this case.
     pub fn number(self) -> u8
@@ -52,6 +60,7 @@ impl Refusal {
             Refusal::DepthThresholdOutOfRange => 2,
             Refusal::Chi2ThresholdIsNan => 3,
             Refusal::InvalidFactor => 3,
+            Refusal::InvalidProtected(_) => 15,
             Refusal::LengthMismatch => 4,
             Refusal::InvalidMap(_) => 5,
             Refusal::EntryTooDeep(_) => 13,
@@ -76,6 +85,7 @@ impl Refusal {
             Refusal::DepthThresholdOutOfRange => 0,
             Refusal::Chi2ThresholdIsNan => 0,
             Refusal::InvalidFactor => 0,
+            Refusal::InvalidProtected(parent) => parent,
             Refusal::LengthMismatch => 0,
             Refusal::InvalidMap(entry) => entry,
             Refusal::EntryTooDeep(entry) => entry,

@@ -7,7 +7,8 @@ use lib.Seq.{length-take-le}
 use Rattle.mom.specs.Map.{firstFault}
 use Rattle.build.specs.declared.HeldMap.{HeldMap}
 use Rattle.build.specs.Add.{settingsRefusal, lengthsRefusal, mapRefusal, heldRefusal}
-use Rattle.build.proofs.Checking.{check-passed, check-refused, settings-pass, lengths-pass, map-passes}
+use Rattle.refusal.proofs.Checks.{check-passed, check-refused}
+use Rattle.build.proofs.Checking.{settings-pass, lengths-pass, map-passes}
 use borrow.Author.Needs.{needs}
 use Rattle.build.proofs.check_held.Statement.{statement}
 use Rattle.build.proofs.check_held.Tie as tie

@@ -7,7 +7,7 @@ use Rattle.refusal.specs.declared.Refusal.{Refusal}
 use Rattle.merger.specs.Floats.{0·0}
 use Rattle.build.specs.Calls.{addCall}
 use Rattle.build.specs.Densities.{densitiesRefusal, addDensities}
-use Rattle.build.proofs.Checking.{check-passed, check-refused}
+use Rattle.refusal.proofs.Checks.{check-passed, check-refused}
 use Rattle.build.proofs.Accepted.{may-push, cleared}
 use Rattle.build.proofs.DensityCalls.{densities-accepted, densities-left}
 use Rattle.build_densities.proofs.add_densities.Statement.{statement}

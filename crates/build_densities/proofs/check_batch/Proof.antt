@@ -4,7 +4,7 @@ use mathlib.Core.Option.{none}
 use Rattle.merger.specs.Floats.{invalidDensity}
 use Rattle.build.specs.Add.{cellsRefusal}
 use Rattle.build.specs.Densities.{densityRefusal}
-use Rattle.build.proofs.Checking.{check-passed, check-refused, refuses}
+use Rattle.refusal.proofs.Checks.{check-passed, check-refused, refuses}
 use borrow.Author.Needs.{needs}
 use Rattle.build_densities.proofs.check_batch.Statement.{statement}
 use Rattle.build_densities.proofs.check_batch.Tie as tie

@@ -9,9 +9,10 @@ use borrow.Author.Needs.{needs}
 use Rattle.zuniq.specs.Cells.{nHash}
 use Rattle.refusal.specs.declared.Refusal.{Refusal}
 use Rattle.merger.specs.Floats.{invalidDensity}
-use Rattle.build.specs.Map.{orElse}
-use Rattle.build.specs.Add.{refusedIf, checkOf, cellRefusal, cellsRefusal}
-use Rattle.build.proofs.Checking.{check-passed, refuses, cell-passes, cells-at, cells-end}
+use Rattle.refusal.specs.Checks.{orElse, refusedIf, checkOf}
+use Rattle.refusal.proofs.Checks.{check-passed, refuses}
+use Rattle.build.specs.Add.{cellRefusal, cellsRefusal}
+use Rattle.build.proofs.Checking.{cell-passes, cells-at, cells-end}
 use Rattle.build_densities.proofs.check_cells.Statement.{statement}
 use Rattle.build_densities.proofs.check_cells.Tie as tie
 

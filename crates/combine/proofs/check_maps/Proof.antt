@@ -2,7 +2,7 @@
 use mathlib.Core.Path.{refl}
 use Rattle.mom.specs.Map.{firstFault}
 use Rattle.build.specs.Add.{mapRefusal}
-use Rattle.build.proofs.Checking.{passes, refuses}
+use Rattle.refusal.proofs.Checks.{passes, refuses}
 use borrow.Author.Needs.{needs}
 use Rattle.combine.proofs.check_maps.Statement.{statement}
 use Rattle.combine.proofs.check_maps.Tie as tie

@@ -7,7 +7,7 @@ use lib.ListN.{length, getD, drop}
 use borrow.Author.Needs.{needs}
 use borrow.Author.Tests.{le-leb, lt-leb, ltb-false}
 use Rattle.zuniq.specs.Cells.{nHash}
-use Rattle.build.specs.Add.{checkOf}
+use Rattle.refusal.specs.Checks.{checkOf}
 use Rattle.coverage.specs.Ranges.{rangesOf, rangesRefusal}
 use Rattle.coverage.proofs.Given.{one-true, none-true, faulty-here, passed-here, passed-all}
 use Rattle.coverage.proofs.check_ranges.Statement.{statement}

@@ -5,7 +5,7 @@ use Rattle.mom.specs.Map.{firstFault}
 use Rattle.mom.specs.declared.FirstFault.{FirstFault}
 use Rattle.mom.proofs.Faults.{no-fault-iff-valid}
 use Rattle.build.specs.Add.{mapRefusal}
-use Rattle.build.proofs.Checking.{passes, refuses}
+use Rattle.refusal.proofs.Checks.{passes, refuses}
 use Rattle.moving.specs.Moving.{entriesRefusal}
 use Rattle.moving.proofs.Deep.{entries-pass-iff}
 use borrow.Author.Needs.{needs}

@@ -3,7 +3,7 @@ use mathlib.Core.Path.{refl}
 use lib.ListN.{length}
 use borrow.Author.Tests.{lt-ltb, le-ltb}
 use Rattle.build.specs.Add.{lengthsRefusal}
-use Rattle.build.proofs.Checking.{passes, refuses}
+use Rattle.refusal.proofs.Checks.{passes, refuses}
 use Rattle.moving.specs.Moving.{entriesRefusal, movingRefusal}
 use borrow.Author.Needs.{needs}
 use Rattle.moving.proofs.check_narrow.Statement.{statement}

@@ -4,7 +4,7 @@ use native.Mathlib.Omega.{arith}
 use lib.ListN.{length}
 use borrow.Author.Tests.{lt-ltb, le-ltb}
 use Rattle.build.specs.Add.{lengthsRefusal, mapRefusal}
-use Rattle.build.proofs.Checking.{passes, refuses}
+use Rattle.refusal.proofs.Checks.{passes, refuses}
 use Rattle.moving.specs.Moving.{entriesRefusal, movingRefusal}
 use Rattle.moving.proofs.Deep.{none-deep}
 use borrow.Author.Needs.{needs}

@@ -5,10 +5,10 @@ use native.Mathlib.Omega.{arith}
 use lib.ListN.{length}
 use Rattle.refusal.specs.declared.Refusal.{Refusal}
 use Rattle.mom.specs.Map.{firstFault}
-use Rattle.build.specs.Map.{orElse}
+use Rattle.refusal.specs.Checks.{orElse}
+use Rattle.refusal.proofs.Checks.{passes, refuses}
 use Rattle.build.specs.Add.{mapRefusal, cappedSum}
 use Rattle.combine.specs.Pool.{settingsRefusal, pairsRefusal, mapsRefusal, poolInputRefusal}
-use Rattle.build.proofs.Checking.{passes, refuses}
 use Rattle.combine.proofs.Checks.{sums-uncapped}
 use borrow.Author.Needs.{needs}
 use Rattle.pool.proofs.check.Statement.{statement}

@@ -4,10 +4,10 @@ use mathlib.Core.Option.{Option}
 use lib.ListN.{length}
 use Rattle.refusal.specs.declared.Refusal.{Refusal}
 use Rattle.mom.specs.Map.{firstFault}
-use Rattle.build.specs.Map.{orElse}
+use Rattle.refusal.specs.Checks.{orElse}
+use Rattle.refusal.proofs.Checks.{passes, refuses}
 use Rattle.build.specs.Add.{mapRefusal}
 use Rattle.combine.specs.Pool.{settingsRefusal, factorRefusal, pairsRefusal, mapsRefusal, mapDensitiesRefusal, productInputRefusal}
-use Rattle.build.proofs.Checking.{passes, refuses}
 use borrow.Author.Needs.{needs}
 use Rattle.product.proofs.check.Statement.{statement}
 use Rattle.product.proofs.check.Tie as tie

@@ -1,7 +1,7 @@
 -- `check_both` meets its contract. Assumes nothing.
 use mathlib.Core.Path.{refl}
 use Rattle.build.specs.Densities.{densityRefusal}
-use Rattle.build.proofs.Checking.{passes, refuses}
+use Rattle.refusal.proofs.Checks.{passes, refuses}
 use borrow.Author.Needs.{needs}
 use Rattle.product.proofs.check_both.Statement.{statement}
 use Rattle.product.proofs.check_both.Tie as tie

@@ -4,7 +4,7 @@ use mathlib.Core.Option.{Option, none}
 use lib.Ieee.{Float}
 use lib.ListN.{length}
 use Rattle.refusal.specs.declared.Refusal.{Refusal}
-use Rattle.build.proofs.Checking.{check-passed, check-refused}
+use Rattle.refusal.proofs.Checks.{check-passed, check-refused}
 use Rattle.combine.specs.Pool.{Given, productInputRefusal}
 use Rattle.combine.proofs.Passed.{passed-holds}
 use Rattle.combine.proofs.ProductCall.{product-passes, product-refused, product-done}

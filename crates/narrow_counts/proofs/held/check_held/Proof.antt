@@ -6,8 +6,10 @@ use lib.ListN.{length, take}
 use lib.Seq.{length-take-le}
 use Rattle.mom.specs.Map.{firstFault}
 use Rattle.build.specs.declared.HeldMap.{HeldMap}
-use Rattle.build.specs.Add.{checkOf, settingsRefusal, lengthsRefusal, mapRefusal, heldRefusal}
-use Rattle.build.proofs.Checking.{check-passed, check-refused, settings-pass, lengths-pass, map-passes}
+use Rattle.refusal.specs.Checks.{checkOf}
+use Rattle.refusal.proofs.Checks.{check-passed, check-refused}
+use Rattle.build.specs.Add.{settingsRefusal, lengthsRefusal, mapRefusal, heldRefusal}
+use Rattle.build.proofs.Checking.{settings-pass, lengths-pass, map-passes}
 use borrow.Author.Needs.{needs}
 use Rattle.narrow_counts.proofs.held.check_held.Statement.{statement}
 use Rattle.narrow_counts.proofs.held.check_held.Tie as tie
