@@ -11,6 +11,8 @@ use lib.ListN.{length, getD, take, drop, replicate, length-drop, drop-of-length-
 use lib.Seq.{getD-take, length-take-le, take-suc}
 use borrow.Rule.Slice.PartMut.{midOf, putMid, mid-len}
 use Rattle.refusal.specs.declared.Refusal.{Refusal}
+use Rattle.protection.specs.Protected.{protectedRefusal, RisingList}
+use Rattle.protection.proofs.Lists.{accepted-iff-rising-list}
 use Rattle.merger.specs.Floats.{invalidDensity}
 use Rattle.merger.specs.Merge.{acceptCounts}
 use Rattle.merger.proofs.Accept.{accepted-count-is-sum}
@@ -55,46 +57,48 @@ accepted bad K D M T m places values zs hs xs a b c d e =
       room = space-passes places m (length hs) e;
     }
 
-pub counts-accepted : (K D M : ℕ) (T : Float) (m places values : ℕ) (zs vs hs ns : List ℕ) → countsRefusal K D M T m places values zs vs hs ns ≡ none
-    → Accepted never K D m places values zs hs ns × (sumOf vs + sumOf ns ≤ 4294967295)
+pub counts-accepted : (K : ℕ) (P : List ℕ) (D M : ℕ) (T : Float) (m places values : ℕ) (zs vs hs ns : List ℕ) → countsRefusal K P D M T m places values zs vs hs ns ≡ none
+    → Accepted never K D m places values zs hs ns × (sumOf vs + sumOf ns ≤ 4294967295) × RisingList P
 unfolding countsRefusal
-counts-accepted K D M T m places values zs vs hs ns e =
+counts-accepted K P D M T m places values zs vs hs ns e =
     let a = or-else-none _ _ e in
-    let b = or-else-none _ _ (a .1) in
+    let l = or-else-none (protectedRefusal K P) _ (a .1) in
+    let b = or-else-none _ _ (l .1) in
     let c = or-else-none _ _ (b .1) in
     let d = or-else-none _ _ (c .1) in
     let f = or-else-none _ _ (d .1) in
-    (accepted never K D M T m places values zs hs ns (a .0) (b .0) (c .0) (d .0) (f .1), total-fits (sumOf vs) ns (f .0))
+    (accepted never K D M T m places values zs hs ns (a .0) (b .0) (c .0) (d .0) (f .1), total-fits (sumOf vs) ns (f .0), accepted-iff-rising-list K P .0 (l .0) .rising)
 
--- ---- rows 1 to 5 as one check
+-- ---- rows 1 to 3, 15, 4 and 5 as one check
 pub record HeldPassed (K D m places values hashes batch : ℕ) : Type 0 where
   pub shallow : D ≤ K
   pub paired : places ≡ values
   pub within : m ≤ places
   pub batched : hashes ≡ batch
 
-pub held-passes : (K D M : ℕ) (T : Float) (m places values : ℕ) (zs : List ℕ) (hashes batch : ℕ) → heldRefusal K D M T m places values zs hashes batch ≡ none
+pub held-passes : (K : ℕ) (P : List ℕ) (D M : ℕ) (T : Float) (m places values : ℕ) (zs : List ℕ) (hashes batch : ℕ) → heldRefusal K P D M T m places values zs hashes batch ≡ none
     → HeldPassed K D m places values hashes batch
 unfolding heldRefusal
-held-passes K D M T m places values zs hashes batch e =
+held-passes K P D M T m places values zs hashes batch e =
     let a = or-else-none _ _ e in
-    let l = lengths-pass m places values hashes batch (or-else-none _ _ (a .1) .0) in
+    let b = or-else-none (protectedRefusal K P) _ (a .1) in
+    let l = lengths-pass m places values hashes batch (or-else-none _ _ (b .1) .0) in
     record { shallow = settings-pass K D M T (a .0); paired = l .0; within = l .1; batched = l .2 }
 
--- The refusals of an add call are those five rows and then the others.
-pub counts-after-held : (K D M : ℕ) (T : Float) (m places values : ℕ) (zs vs hs ns : List ℕ)
-    → countsRefusal K D M T m places values zs vs hs ns
-    ≡ orElse (heldRefusal K D M T m places values zs (length hs) (length ns))
+-- The refusals of an add call are those rows and then the others.
+pub counts-after-held : (K : ℕ) (P : List ℕ) (D M : ℕ) (T : Float) (m places values : ℕ) (zs vs hs ns : List ℕ)
+    → countsRefusal K P D M T m places values zs vs hs ns
+    ≡ orElse (heldRefusal K P D M T m places values zs (length hs) (length ns))
     (orElse (cellsRefusal never D (mapEnd K D zs) 0 hs ns) (orElse (totalRefusal (sumOf vs) ns) (spaceRefusal places m (length hs))))
 unfolding countsRefusal heldRefusal
-counts-after-held K D M T m places values zs vs hs ns = grouped (settingsRefusal K D M T) (lengthsRefusal m places values (length hs) (length ns)) (mapRefusal (firstFault K D zs)) _
+counts-after-held K P D M T m places values zs vs hs ns = grouped (settingsRefusal K D M T) (protectedRefusal K P) (lengthsRefusal m places values (length hs) (length ns)) (mapRefusal (firstFault K D zs)) _
 
-pub densities-after-held : (D M : ℕ) (T : Float) (m places values : ℕ) (zs : List ℕ) (vs : List Float) (hs : List ℕ) (xs : List Float)
-    → densitiesRefusal D M T m places values zs vs hs xs
-    ≡ orElse (heldRefusal 29 D M T m places values zs (length hs) (length xs))
+pub densities-after-held : (P : List ℕ) (D M : ℕ) (T : Float) (m places values : ℕ) (zs : List ℕ) (vs : List Float) (hs : List ℕ) (xs : List Float)
+    → densitiesRefusal P D M T m places values zs vs hs xs
+    ≡ orElse (heldRefusal 29 P D M T m places values zs (length hs) (length xs))
     (orElse (densityRefusal 0 vs) (orElse (cellsRefusal invalidDensity D (mapEnd 29 D zs) 0 hs xs) (spaceRefusal places m (length hs))))
 unfolding densitiesRefusal heldRefusal
-densities-after-held D M T m places values zs vs hs xs = grouped (settingsRefusal 29 D M T) (lengthsRefusal m places values (length hs) (length xs)) (mapRefusal (firstFault 29 D zs)) _
+densities-after-held P D M T m places values zs vs hs xs = grouped (settingsRefusal 29 D M T) (protectedRefusal 29 P) (lengthsRefusal m places values (length hs) (length xs)) (mapRefusal (firstFault 29 D zs)) _
 
 -- A valid map stands in its places.
 pub valid-stands : {A : Type 0} (K D m : ℕ) (zs : List ℕ) (vs : List A) → m ≤ length zs → m ≤ length vs → ValidMap K D (take m zs) → Stands K m zs vs
@@ -168,19 +172,19 @@ module _ {A R X : Type 0} (g : Calls A R X) (u : A) (b : Buffers A) where
   call-left c e n zs vs zs′ vs′ w lz lv ez ev = rw e (map-left _ n zs vs zs′ vs′ (w .stands) (w .is) lz lv ez ev)
 
 -- The same for counts, with their total.
-pub counts-left : (K D M : ℕ) (T : Float) (m : ℕ) (zs vs hs ns : List ℕ) → countsRefusal K D M T m (length zs) (length vs) (take m zs) (take m vs) hs ns ≡ none
-    → (n sum : ℕ) (zs₁ vs₁ zs₂ vs₂ : List ℕ) → Added (acceptCounts M T) K m (batch D hs ns) zs vs n zs₁ vs₁ → length zs₁ ≡ length zs → length vs₁ ≡ length vs
+pub counts-left : (K : ℕ) (P : List ℕ) (D M : ℕ) (T : Float) (m : ℕ) (zs vs hs ns : List ℕ) → countsRefusal K P D M T m (length zs) (length vs) (take m zs) (take m vs) hs ns ≡ none
+    → (n sum : ℕ) (zs₁ vs₁ zs₂ vs₂ : List ℕ) → Added (acceptCounts K P M T) K m (batch D hs ns) zs vs n zs₁ vs₁ → length zs₁ ≡ length zs → length vs₁ ≡ length vs
     → zs₂ ≡ take n zs₁ ++ replicate (length zs₁ - n) 0 → vs₂ ≡ take n vs₁ ++ replicate (length vs₁ - n) 0 → sumOf (take m vs) + sumOf ns ≡ sum
-    → (CountsAdded.Added n sum, zs₂, vs₂) ≡ addCounts K D M T m zs vs hs ns
+    → (CountsAdded.Added n sum, zs₂, vs₂) ≡ addCounts K P D M T m zs vs hs ns
 unfolding addCounts
-counts-left K D M T m zs vs hs ns e n sum zs₁ vs₁ zs₂ vs₂ w lz lv ez ev es =
-    let a = counts-accepted K D M T m (length zs) (length vs) (take m zs) (take m vs) hs ns e .0 in
+counts-left K P D M T m zs vs hs ns e n sum zs₁ vs₁ zs₂ vs₂ w lz lv ez ev es =
+    let a = counts-accepted K P D M T m (length zs) (length vs) (take m zs) (take m vs) hs ns e .0 in
     let s = valid-stands K D m zs vs (a .within) (omega (arith, a .within, a .paired)) (a .valid) in
     let k : n ≡ length (held K n zs₁ vs₁) = sym (held-length K 0 n zs₁ vs₁ (w .stands)) in
     let t : sum ≡ totalOf (held K n zs₁ vs₁) =
     sym es ∙ ap₂ _+_ (sym (held-total K m zs vs s)) (sym (batch-total D hs ns (a .batched)))
-    ∙ sym (run-total (acceptCounts M T) (λ x. x) (λ d h k0 k1 k2 k3 x q. accepted-count-is-sum M T d h k0 k1 k2 k3 x q) (held K m zs vs) (batch D hs ns))
+    ∙ sym (run-total (acceptCounts K P M T) (λ x. x) (λ d h k0 k1 k2 k3 x q. accepted-count-is-sum K P M T d h k0 k1 k2 k3 x q) (held K m zs vs) (batch D hs ns))
     ∙ sym (ap totalOf (w .is)) in
     ap₂ (λ (k t : ℕ). (CountsAdded.Added k t, zs₂, vs₂)) k t
     ∙ ap (λ (r : Buffers ℕ × Answer Refusal Report). (countsAdded (r .1), r .0 .zuniqs, r .0 .values))
-    (call-left (countCalls K D M T) 0 (record { number = m; zuniqs = zs; values = vs }) (record { hashes = hs; values = ns }) e n zs₁ vs₁ zs₂ vs₂ w lz lv ez ev)
+    (call-left (countCalls K P D M T) 0 (record { number = m; zuniqs = zs; values = vs }) (record { hashes = hs; values = ns }) e n zs₁ vs₁ zs₂ vs₂ w lz lv ez ev)

@@ -87,26 +87,26 @@ module _ {A : Type 0} (accept : Merger A) (K : ℕ) (u : A) (m : ℕ) (zs : List
   values-left filler = buffer-left valueOf filler vs xs (held-values K u m zs vs w) (batch-values 0 hs xs n)
 
 -- Counts: "the entries after an accepted call are the held ones followed by the batch's cells with their values", at any M and T.
-pub counts-at-depth-0 : (K M : ℕ) (T : Float) (m : ℕ) (zs vs hs ns : List ℕ) → countsRefusal K 0 M T m (length zs) (length vs) (take m zs) (take m vs) hs ns ≡ none
-    → addCounts K 0 M T m zs vs hs ns ≡ (CountsAdded.Added (m + length hs) (sumOf (take m vs) + sumOf ns), followed m zs (map (zuniq K 0) hs) 0, followed m vs ns 0)
+pub counts-at-depth-0 : (K : ℕ) (P : List ℕ) (M : ℕ) (T : Float) (m : ℕ) (zs vs hs ns : List ℕ) → countsRefusal K P 0 M T m (length zs) (length vs) (take m zs) (take m vs) hs ns ≡ none
+    → addCounts K P 0 M T m zs vs hs ns ≡ (CountsAdded.Added (m + length hs) (sumOf (take m vs) + sumOf ns), followed m zs (map (zuniq K 0) hs) 0, followed m vs ns 0)
 unfolding addCounts addCall
-counts-at-depth-0 K M T m zs vs hs ns e =
-    let a = counts-accepted K 0 M T m (length zs) (length vs) (take m zs) (take m vs) hs ns e .0 in
+counts-at-depth-0 K P M T m zs vs hs ns e =
+    let a = counts-accepted K P 0 M T m (length zs) (length vs) (take m zs) (take m vs) hs ns e .0 in
     let w = valid-stands K 0 m zs vs (a .within) (omega (arith, a .within, a .paired)) (a .valid) in
-    let accept = acceptCounts M T in
+    let accept = acceptCounts K P M T in
     let number = length-left accept K 0 m zs vs w hs ns (a .batched) ∙ ap (λ (k : ℕ). m + k) (length-batch 0 hs ns (a .batched)) in
     let sum : totalOf (run accept (held K m zs vs) (batch 0 hs ns)) ≡ sumOf (take m vs) + sumOf ns =
-    run-total accept (λ x. x) (λ d h k0 k1 k2 k3 x q. accepted-count-is-sum M T d h k0 k1 k2 k3 x q) (held K m zs vs) (batch 0 hs ns)
+    run-total accept (λ x. x) (λ d h k0 k1 k2 k3 x q. accepted-count-is-sum K P M T d h k0 k1 k2 k3 x q) (held K m zs vs) (batch 0 hs ns)
     ∙ ap₂ _+_ (held-total K m zs vs w) (batch-total 0 hs ns (a .batched)) in
     rw (e, number, sum, zuniqs-left accept K 0 m zs vs w hs ns (a .batched), values-left accept K 0 m zs vs w hs ns (a .batched) 0) refl
 
 -- Densities likewise.
-pub densities-at-depth-0 : (M : ℕ) (T : Float) (m : ℕ) (zs : List ℕ) (vs : List Float) (hs : List ℕ) (xs : List Float) → densitiesRefusal 0 M T m (length zs) (length vs) (take m zs) (take m vs) hs xs ≡ none
-    → addDensities 0 M T m zs vs hs xs ≡ (DensitiesAdded.Added (m + length hs), followed m zs (map (zuniq 29 0) hs) 0, followed m vs xs 0·0)
+pub densities-at-depth-0 : (P : List ℕ) (M : ℕ) (T : Float) (m : ℕ) (zs : List ℕ) (vs : List Float) (hs : List ℕ) (xs : List Float) → densitiesRefusal P 0 M T m (length zs) (length vs) (take m zs) (take m vs) hs xs ≡ none
+    → addDensities P 0 M T m zs vs hs xs ≡ (DensitiesAdded.Added (m + length hs), followed m zs (map (zuniq 29 0) hs) 0, followed m vs xs 0·0)
 unfolding addDensities addCall
-densities-at-depth-0 M T m zs vs hs xs e =
-    let a = densities-accepted 0 M T m (length zs) (length vs) (take m zs) (take m vs) hs xs e in
+densities-at-depth-0 P M T m zs vs hs xs e =
+    let a = densities-accepted P 0 M T m (length zs) (length vs) (take m zs) (take m vs) hs xs e .0 in
     let w = valid-stands 29 0 m zs vs (a .within) (omega (arith, a .within, a .paired)) (a .valid) in
-    let accept = acceptDensities M T in
+    let accept = acceptDensities P M T in
     let number = length-left accept 29 nan m zs vs w hs xs (a .batched) ∙ ap (λ (k : ℕ). m + k) (length-batch 0 hs xs (a .batched)) in
     rw (e, number, zuniqs-left accept 29 nan m zs vs w hs xs (a .batched), values-left accept 29 nan m zs vs w hs xs (a .batched) 0·0) refl

@@ -27,11 +27,12 @@ use Rattle.build.specs.Standing.{Rising}
 use Rattle.build.specs.Counts.{totalOr, never}
 
 -- Refusals in order may be tried in groups.
-pub grouped : (a b c d : Option Refusal) → orElse a (orElse b (orElse c d)) ≡ orElse (orElse a (orElse b c)) d
-grouped none none none d = refl
-grouped none none (some r) d = refl
-grouped none (some r) c d = refl
-grouped (some r) b c d = refl
+pub grouped : (a b c d e : Option Refusal) → orElse a (orElse b (orElse c (orElse d e))) ≡ orElse (orElse a (orElse b (orElse c d))) e
+grouped none none none none e = refl
+grouped none none none (some r) e = refl
+grouped none none (some r) d e = refl
+grouped none (some r) c d e = refl
+grouped (some r) b c d e = refl
 
 -- What the check of the held map answers tells what it found.
 pub held-passed : (o : Option Refusal) (n e : ℕ) → heldOr o n ≡ HeldMap.EndsAt e → (o ≡ none) × (n ≡ e)

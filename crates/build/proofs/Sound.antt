@@ -91,8 +91,8 @@ accepted-fine bad K D places values s hs xs f a =
       room = omega (arith, a .room, length-batch D hs xs (a .batched));
     }
 
-pub count-calls-sound : (K D M : ℕ) (T : Float) → Sound (countCalls K D M T)
-count-calls-sound K D M T zs vs s c f q = accepted-fine _ K D zs vs s (c .hashes) (c .values) f (counts-accepted K D M T _ zs vs _ _ (c .hashes) (c .values) q .0)
+pub count-calls-sound : (K : ℕ) (P : List ℕ) (D M : ℕ) (T : Float) → Sound (countCalls K P D M T)
+count-calls-sound K P D M T zs vs s c f q = accepted-fine _ K D zs vs s (c .hashes) (c .values) f (counts-accepted K P D M T _ zs vs _ _ (c .hashes) (c .values) q .0)
 
-pub density-calls-sound : (D M : ℕ) (T : Float) → Sound (densityCalls D M T)
-density-calls-sound D M T zs vs s c f q = accepted-fine _ 29 D zs vs s (c .hashes) (c .values) f (densities-accepted D M T _ zs vs _ _ (c .hashes) (c .values) q)
+pub density-calls-sound : (P : List ℕ) (D M : ℕ) (T : Float) → Sound (densityCalls P D M T)
+density-calls-sound P D M T zs vs s c f q = accepted-fine _ 29 D zs vs s (c .hashes) (c .values) f (densities-accepted P D M T _ zs vs _ _ (c .hashes) (c .values) q .0)

@@ -10,6 +10,7 @@ use lib.ListN.{length}
 use Rattle.zuniq.specs.Cells.{nHash, end}
 use Rattle.zuniq.specs.Codec.{decode}
 use Rattle.zuniq.specs.declared.Decoded.{Decoded}
+use Rattle.protection.specs.Protected.{protectedRefusal}
 use Rattle.mom.specs.Map.{firstFault}
 use Rattle.mom.specs.declared.FirstFault.{FirstFault}
 use Rattle.refusal.specs.declared.Refusal.{Refusal}
@@ -73,13 +74,14 @@ unfoldable pub mapRefusal : FirstFault → Option Refusal
 mapRefusal FirstFault.Nothing = none
 mapRefusal (FirstFault.At place fault) = some (Refusal.InvalidMap place)
 
--- rows 1 to 5, which both add calls have: m is the held number, `places` and `values` are the lengths of the buffers, zs the held
--- zuniqs, `hashes` and `batch` the lengths of the batch's two lists
-unfoldable pub heldRefusal : ℕ → ℕ → ℕ → Float → ℕ → ℕ → ℕ → List ℕ → ℕ → ℕ → Option Refusal
-heldRefusal K D M T m places values zs hashes batch =
+-- rows 1 to 3, 15 (note 7 of 02: "tried after 3"), 4 and 5, which both add calls have: P is the list of protected parents, m the held
+-- number, `places` and `values` are the lengths of the buffers, zs the held zuniqs, `hashes` and `batch` the lengths of the batch's two lists
+unfoldable pub heldRefusal : ℕ → List ℕ → ℕ → ℕ → Float → ℕ → ℕ → ℕ → List ℕ → ℕ → ℕ → Option Refusal
+heldRefusal K P D M T m places values zs hashes batch =
     orElse (settingsRefusal K D M T)
+    (orElse (protectedRefusal K P)
     (orElse (lengthsRefusal m places values hashes batch)
-    (mapRefusal (firstFault K D zs)))
+    (mapRefusal (firstFault K D zs))))
 
 -- where the held map ends, or why it is refused
 abbrev pub heldOr : Option Refusal → ℕ → HeldMap

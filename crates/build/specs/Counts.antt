@@ -7,6 +7,7 @@ use lib.Ieee.{Float}
 use lib.ListN.{length}
 use Rattle.refusal.specs.declared.Refusal.{Refusal}
 use Rattle.merger.specs.Merge.{acceptCounts}
+use Rattle.protection.specs.Protected.{protectedRefusal}
 use Rattle.mom.specs.Map.{firstFault}
 use Rattle.build.specs.declared.counts.Total.{Total}
 use Rattle.build.specs.declared.counts.CountsAdded.{CountsAdded}
@@ -29,31 +30,32 @@ totalOr (some r) n = Total.Refused r
 abbrev pub never : ℕ → Bool
 never n = false
 
--- The refusals of adding counts, in the order of the table: 1 to 5, 7 and 8 cell by cell, 10, 11. m is the held number, `places`
--- and `values` are the lengths of the buffers, zs and vs the held zuniqs and counts, hs and ns the batch. K is the largest depth of the
--- zuniq type: 29 for 64 bits, 13 for 32.
-unfoldable pub countsRefusal : ℕ → ℕ → ℕ → Float → ℕ → ℕ → ℕ → List ℕ → List ℕ → List ℕ → List ℕ → Option Refusal
-countsRefusal K D M T m places values zs vs hs ns =
+-- The refusals of adding counts, in the order of the table: 1 to 3, 15, 4, 5, 7 and 8 cell by cell, 10, 11. P is the list of protected
+-- parents, m the held number, `places` and `values` are the lengths of the buffers, zs and vs the held zuniqs and counts, hs and ns the
+-- batch. K is the largest depth of the zuniq type: 29 for 64 bits, 13 for 32.
+unfoldable pub countsRefusal : ℕ → List ℕ → ℕ → ℕ → Float → ℕ → ℕ → ℕ → List ℕ → List ℕ → List ℕ → List ℕ → Option Refusal
+countsRefusal K P D M T m places values zs vs hs ns =
     orElse (settingsRefusal K D M T)
+    (orElse (protectedRefusal K P)
     (orElse (lengthsRefusal m places values (length hs) (length ns))
     (orElse (mapRefusal (firstFault K D zs))
     (orElse (cellsRefusal never D (mapEnd K D zs) 0 hs ns)
     (orElse (totalRefusal (sumOf vs) ns)
-    (spaceRefusal places m (length hs))))))
+    (spaceRefusal places m (length hs)))))))
 
 -- "the new number of entries and, for counts, their total"
 pub record Report : Type 0 where
   pub entries : ℕ
   pub sum : ℕ
 
--- "a list of count add calls with one D, M and T"
-abbrev pub countCalls : ℕ → ℕ → ℕ → Float → Calls ℕ Refusal Report
-countCalls K D M T = record {
+-- "a list of count add calls with one D, M and T", and by note 7 of 02 "under one list for all calls"
+abbrev pub countCalls : ℕ → List ℕ → ℕ → ℕ → Float → Calls ℕ Refusal Report
+countCalls K P D M T = record {
   largest = K;
   D = D;
   filler = 0;
-  accept = acceptCounts M T;
-  refusal = λ m places values zs vs c. countsRefusal K D M T m places values zs vs (c .hashes) (c .values);
+  accept = acceptCounts K P M T;
+  refusal = λ m places values zs vs c. countsRefusal K P D M T m places values zs vs (c .hashes) (c .values);
   report = λ s. record { entries = length s; sum = totalOf s };
 }
 
@@ -63,7 +65,7 @@ countsAdded (Answer.refused r) = CountsAdded.Refused r
 countsAdded (Answer.accepted x) = CountsAdded.Added (x .entries) (x .sum)
 
 -- The answer and both buffers afterwards.
-unfoldable pub addCounts : ℕ → ℕ → ℕ → Float → ℕ → List ℕ → List ℕ → List ℕ → List ℕ → CountsAdded × List ℕ × List ℕ
-addCounts K D M T m zs vs hs ns =
-    let t = addCall (countCalls K D M T) (record { number = m; zuniqs = zs; values = vs }) (record { hashes = hs; values = ns }) in
+unfoldable pub addCounts : ℕ → List ℕ → ℕ → ℕ → Float → ℕ → List ℕ → List ℕ → List ℕ → List ℕ → CountsAdded × List ℕ × List ℕ
+addCounts K P D M T m zs vs hs ns =
+    let t = addCall (countCalls K P D M T) (record { number = m; zuniqs = zs; values = vs }) (record { hashes = hs; values = ns }) in
     (countsAdded (t .1), t .0 .zuniqs, t .0 .values)

@@ -6,7 +6,8 @@
 // merger accepts, they are replaced by the parent. Every place after the entries is then 0.
 //
 // A call looks at everything before it writes anything, so that a refusal leaves both buffers as
-// they were: one pass over the held map, one over the batch, and one to write.
+// they were: one pass over the protected parents, one over the held map, one over the batch, and one to
+// write.
 //
 // The calls are in `build_counts` and `build_densities`. Here are the definitions and laws of both,
 // their answers, and what they share: checks, siblings and the free part.
@@ -23,6 +24,7 @@ ghost use Rattle.build.specs.Add.{settingsRefusal, lengthsRefusal, cellR
 use merger::is_nan;
 use mom::FirstFault;
 use mom::first_fault;
+use protection::check_protected;
 use refusal::Check;
 use refusal::Refusal;
 use zuniq::Decoded;
@@ -38,19 +40,20 @@ pub enum HeldMap {
     Refused(Refusal),
 }
 
-// Rows 1 to 5 of the table of refusals, which both add calls have: `values` and `batch` are the lengths
-// of the buffer and of the list that hold their values.
+// Rows 1 to 3, 15, 4 and 5 of the table of refusals, which both add calls have: `values` and `batch` are
+// the lengths of the buffer and of the list that hold their values.
 pub fn check_held(
     depth: u8,
     depth_threshold: u8,
     chi2_threshold: f64,
+    protected: &[u64],
     held: usize,
     zuniqs: &[u64],
     values: usize,
     hashes: usize,
     batch: usize,
 ) -> HeldMap
-    ensures { λ r. ⌜ r ≡ heldOr (heldRefusal 29 depth «depth_threshold» «chi2_threshold» held (length (now (zuniqs .entry))) values (take held (now (zuniqs .entry))) hashes batch) (mapEnd 29 depth (take held (now (zuniqs .entry)))) ⌝ }
+    ensures { λ r. ⌜ r ≡ heldOr (heldRefusal 29 (now (protected .entry)) depth «depth_threshold» «chi2_threshold» held (length (now (zuniqs .entry))) values (take held (now (zuniqs .entry))) hashes batch) (mapEnd 29 depth (take held (now (zuniqs .entry)))) ⌝ }
 {
     if let Check::Refused(refusal) = check_settings(
         Zuniq64::MAX_DEPTH,
@@ -58,6 +61,9 @@ pub fn check_held(
         depth_threshold,
         chi2_threshold,
     ) {
+        return HeldMap::Refused(refusal);
+    }
+    if let Check::Refused(refusal) = check_protected(protected) {
         return HeldMap::Refused(refusal);
     }
     if let Check::Refused(refusal) = check_lengths(held, zuniqs.len(), values, hashes, batch) {
