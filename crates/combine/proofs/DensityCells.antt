@@ -52,32 +52,32 @@ not-finite-append [] m = refl
 not-finite-append (e ∷ l) m = ap (λ (b : Bool). notFinite (e .value) || b) (not-finite-append l m) ∙ sym (or-assoc (notFinite (e .value)) (someNotFinite l) (someNotFinite m))
 
 -- The cells have been counted or merged into buffers that keep their lengths, or one of them is not finite.
-pub record WroteCells (pass : Pass) (zs₀ : List ℕ) (vs₀ : List Float) (c : Cells) (zs : List ℕ) (vs : List Float) (cells : List (Entry Float)) : Type 0 where
-  pub outcome : CellsOutcome pass 0 cells zs₀ vs₀ c zs vs
+pub record WroteCells (P : List ℕ) (pass : Pass) (zs₀ : List ℕ) (vs₀ : List Float) (c : Cells) (zs : List ℕ) (vs : List Float) (cells : List (Entry Float)) : Type 0 where
+  pub outcome : CellsOutcome P pass 0 cells zs₀ vs₀ c zs vs
   pub zuniqs : length zs ≡ length zs₀
   pub values : length vs ≡ length vs₀
 
-pub wrote-no-density : (pass : Pass) (zs : List ℕ) (vs : List Float) → WroteCells pass zs vs (Cells.Number 0) zs vs []
-wrote-no-density pass zs vs = record { outcome = (no-cell-finite, wrote-nothing acceptDensities pass zs vs .outcome); zuniqs = refl; values = refl }
+pub wrote-no-density : (P : List ℕ) (pass : Pass) (zs : List ℕ) (vs : List Float) → WroteCells P pass zs vs (Cells.Number 0) zs vs []
+wrote-no-density P pass zs vs = record { outcome = (no-cell-finite, wrote-nothing (acceptDensities P) pass zs vs .outcome); zuniqs = refl; values = refl }
 
-module _ {pass : Pass} {zs₀ : List ℕ} {vs₀ : List Float} {zs : List ℕ} {vs : List Float} {cells : List (Entry Float)} where
+module _ {P : List ℕ} {pass : Pass} {zs₀ : List ℕ} {vs₀ : List Float} {zs : List ℕ} {vs : List Float} {cells : List (Entry Float)} where
   -- One cell that is not finite settles what is answered of all.
-  pub wrote-not-finite : {c : Cells} (o all : List (Entry Float)) → c ≡ Cells.NotFinite → WroteCells pass zs₀ vs₀ c zs vs cells → cells ++ o ≡ all → CellsOutcome pass 0 all zs₀ vs₀ c zs vs
+  pub wrote-not-finite : {c : Cells} (o all : List (Entry Float)) → c ≡ Cells.NotFinite → WroteCells P pass zs₀ vs₀ c zs vs cells → cells ++ o ≡ all → CellsOutcome P pass 0 all zs₀ vs₀ c zs vs
   wrote-not-finite o all q w e =
-      let b = subst (λ (c : Cells). CellsOutcome pass 0 cells zs₀ vs₀ c zs vs) q (w .outcome) in
+      let b = subst (λ (c : Cells). CellsOutcome P pass 0 cells zs₀ vs₀ c zs vs) q (w .outcome) in
       rw q (ap someNotFinite (sym e) ∙ rw (not-finite-append cells o, b .0), b .1)
 
-  module _ {n : ℕ} (w : WroteCells pass zs₀ vs₀ (Cells.Number n) zs vs cells) where
-    wrote : Wrote pass acceptDensities zs₀ vs₀ n zs vs cells
+  module _ {n : ℕ} (w : WroteCells P pass zs₀ vs₀ (Cells.Number n) zs vs cells) where
+    wrote : Wrote pass (acceptDensities P) zs₀ vs₀ n zs vs cells
     wrote = record { outcome = w .outcome .1; zuniqs = w .zuniqs; values = w .values }
 
-    cells-next : (l : List (Entry Float)) (c : Cells) (zs′ : List ℕ) (vs′ : List Float) → CellsOutcome pass n l zs vs c zs′ vs′ → length zs′ ≡ length zs → length vs′ ≡ length vs → CellsOutcome pass 0 (cells ++ l) zs₀ vs₀ c zs′ vs′
+    cells-next : (l : List (Entry Float)) (c : Cells) (zs′ : List ℕ) (vs′ : List Float) → CellsOutcome P pass n l zs vs c zs′ vs′ → length zs′ ≡ length zs → length vs′ ≡ length vs → CellsOutcome P pass 0 (cells ++ l) zs₀ vs₀ c zs′ vs′
     cells-next l (Cells.Number r) zs′ vs′ o p q = (rw (not-finite-append cells l, w .outcome .0) (o .0), wrote-next l wrote (o .1) p q .outcome)
     cells-next l Cells.NotFinite zs′ vs′ o p q = (rw (not-finite-append cells l, w .outcome .0) (o .0), wrote-untouched zs′ vs′ wrote (o .1))
 
 -- ---- a cell that is shown
-module _ {k : Float} {lz : List ℕ} {lv : List Float} {rz : List ℕ} {rv : List Float} {zs₀ : List ℕ} {vs₀ : List Float} {zs : List ℕ} {vs : List Float} {pass : Pass} {n m : ℕ} {l r : At Dhzv} {lp rp : List Dhzv}
-    (w : Ready copyDensity (productRule k) asEntry blank zuniqIn lz lv rz rv (WroteCells pass zs₀ vs₀ (Cells.Number n) zs vs) l r lp rp m)
+module _ {P : List ℕ} {k : Float} {lz : List ℕ} {lv : List Float} {rz : List ℕ} {rv : List Float} {zs₀ : List ℕ} {vs₀ : List Float} {zs : List ℕ} {vs : List Float} {pass : Pass} {n m : ℕ} {l r : At Dhzv} {lp rp : List Dhzv}
+    (w : Ready copyDensity (productRule k) asEntry blank zuniqIn lz lv rz rv (WroteCells P pass zs₀ vs₀ (Cells.Number n) zs vs) l r lp rp m)
     (s : LhsRhsBoth) (t : Turned asEntry 29 (l .head) (r .head) (shows (sawOf s))) where
   -- What the rule answers can be kept.
   pub shown-keeps : Room pass (productCells k lz lv rz rv) zs₀ vs₀ → CanShow pass k n (sawOf s) zs vs
@@ -85,7 +85,7 @@ module _ {k : Float} {lz : List ℕ} {lv : List Float} {rz : List ℕ} {rv : Lis
   shown-keeps room Answer.Dropped e z = wrote-stands (wrote (w .walking .wrote))
 
   -- It is counted or pushed, or is not finite, and the heads that it takes are used up.
-  pub shown-kept : {zs′ : List ℕ} {vs′ : List Float} {tl tr : Bool} (c : Cells) → CellsOutcome pass n (keptOf (productRule k) (shownAs asEntry (sawOf s))) zs vs c zs′ vs′ → length zs′ ≡ length zs → length vs′ ≡ length vs
-      → tl ≡ takesLeft (sawOf s) → tr ≡ takesRight (sawOf s) → Walking copyDensity (productRule k) asEntry blank zuniqIn lz lv rz rv (WroteCells pass zs₀ vs₀ c zs′ vs′) (used tl l) (used tr r) lp rp
+  pub shown-kept : {zs′ : List ℕ} {vs′ : List Float} {tl tr : Bool} (c : Cells) → CellsOutcome P pass n (keptOf (productRule k) (shownAs asEntry (sawOf s))) zs vs c zs′ vs′ → length zs′ ≡ length zs → length vs′ ≡ length vs
+      → tl ≡ takesLeft (sawOf s) → tr ≡ takesRight (sawOf s) → Walking copyDensity (productRule k) asEntry blank zuniqIn lz lv rz rv (WroteCells P pass zs₀ vs₀ c zs′ vs′) (used tl l) (used tr r) lp rp
   shown-kept {zs′} {vs′} c o p q f g =
-      ready-shown w (sawOf s) t (WroteCells pass zs₀ vs₀ c zs′ vs′) f g (λ d k. record { outcome = cells-next k _ c zs′ vs′ o p q; zuniqs = p ∙ k .zuniqs; values = q ∙ k .values })
+      ready-shown w (sawOf s) t (WroteCells P pass zs₀ vs₀ c zs′ vs′) f g (λ d k. record { outcome = cells-next k _ c zs′ vs′ o p q; zuniqs = p ∙ k .zuniqs; values = q ∙ k .values })

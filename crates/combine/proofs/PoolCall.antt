@@ -12,6 +12,8 @@ use lib.ListN.{length, take, replicate}
 use borrow.Author.Tests.{lt-ltb, le-ltb, ltb-false}
 use Rattle.zuniq.specs.Cells.{nHash}
 use Rattle.refusal.specs.declared.Refusal.{Refusal}
+use Rattle.protection.specs.Protected.{protectedRefusal, RisingList}
+use Rattle.protection.proofs.Lists.{accepted-iff-rising-list}
 use Rattle.merger.specs.Merge.{acceptCounts}
 use Rattle.merger.proofs.Accept.{accepted-count-is-sum}
 use Rattle.build.specs.Map.{Entry}
@@ -34,50 +36,51 @@ use Rattle.combine.proofs.Swap.{overlay-swap}
 use Rattle.combine.proofs.Given.{entries-total}
 use Rattle.combine.proofs.Passed.{Passed, passed, kept-deeper, combined-deeper}
 
-pub pool-input-passes : (l r : Given ℕ) (M : ℕ) (T : Float) (places values : ℕ) → poolInputRefusal l r M T places values ≡ none
-    → Passed l r places values × (sumOf (l .values) + sumOf (r .values) ≤ 4294967295)
+pub pool-input-passes : (P : List ℕ) (l r : Given ℕ) (M : ℕ) (T : Float) (places values : ℕ) → poolInputRefusal P l r M T places values ≡ none
+    → Passed l r places values × (sumOf (l .values) + sumOf (r .values) ≤ 4294967295) × RisingList P
 unfolding poolInputRefusal sumsRefusal
-pool-input-passes l r M T places values e =
+pool-input-passes P l r M T places values e =
     let a = or-else-none (settingsRefusal (l .depth) (r .depth) M T) _ e in
-    let b = or-else-none (pairsRefusal (length (l .zuniqs)) (length (l .values)) (length (r .zuniqs)) (length (r .values)) places values) _ (a .1) in
+    let p = or-else-none (protectedRefusal 29 P) _ (a .1) in
+    let b = or-else-none (pairsRefusal (length (l .zuniqs)) (length (l .values)) (length (r .zuniqs)) (length (r .values)) places values) _ (p .1) in
     let c = or-else-none (mapsRefusal l r) _ (b .1) in
-    (passed l r M T places values (a .0) (b .0) (c .0), ltb-false _ _ (refused-if-none _ _ (c .1)))
+    (passed l r M T places values (a .0) (b .0) (c .0), ltb-false _ _ (refused-if-none _ _ (c .1)), accepted-iff-rising-list 29 P .0 (p .0) .rising)
 
 -- What a walk that merges leaves, with every place after it cleared, told by the definition over all depths that there are.
-module _ (l r : List (Entry ℕ)) (p : Rises 29 0 (nHash 29) l) (q : Rises 29 0 (nHash 29) r) (M : ℕ) (T : Float) (zs vs : List ℕ) where
-  pub pool-left : (n sum : ℕ) (zs₁ vs₁ zs₂ vs₂ : List ℕ) → Added (acceptCounts M T) 29 0 (kept poolRule (overlay splitCount 29 l r)) zs vs n zs₁ vs₁
+module _ (P : List ℕ) (l r : List (Entry ℕ)) (p : Rises 29 0 (nHash 29) l) (q : Rises 29 0 (nHash 29) r) (M : ℕ) (T : Float) (zs vs : List ℕ) where
+  pub pool-left : (n sum : ℕ) (zs₁ vs₁ zs₂ vs₂ : List ℕ) → Added (acceptCounts 29 P M T) 29 0 (kept poolRule (overlay splitCount 29 l r)) zs vs n zs₁ vs₁
       → length zs₁ ≡ length zs → length vs₁ ≡ length vs → zs₂ ≡ take n zs₁ ++ replicate (length zs₁ - n) 0 → vs₂ ≡ take n vs₁ ++ replicate (length vs₁ - n) 0
-      → totalOf l + totalOf r ≡ sum → (CountsAdded.Added n sum, zs₂, vs₂) ≡ poolOver 29 none l r M T zs vs
+      → totalOf l + totalOf r ≡ sum → (CountsAdded.Added n sum, zs₂, vs₂) ≡ poolOver P 29 none l r M T zs vs
   unfolding poolOver held readOnto
   pool-left n sum zs₁ vs₁ zs₂ vs₂ w lz lv ez ev es =
-      let accept = acceptCounts M T in
+      let accept = acceptCounts 29 P M T in
       let pool = definedPool accept 29 l r in
       let is : held 29 n zs₁ vs₁ ≡ reverse pool = w .is ∙ run-gives-combined poolRule accept splitCount 29 l r in
       let k : n ≡ length (held 29 n zs₁ vs₁) = sym (held-length 29 0 n zs₁ vs₁ (w .stands)) in
       let t : sum ≡ totalOf (held 29 n zs₁ vs₁) =
-      sym es ∙ sym (pool-total 29 l r p q accept (λ d h k0 k1 k2 k3 x y. accepted-count-is-sum M T d h k0 k1 k2 k3 x y)) ∙ sym (total-reverse (λ x. x) pool) ∙ sym (ap totalOf is) in
+      sym es ∙ sym (pool-total 29 l r p q accept (λ d h k0 k1 k2 k3 x y. accepted-count-is-sum 29 P M T d h k0 k1 k2 k3 x y)) ∙ sym (total-reverse (λ x. x) pool) ∙ sym (ap totalOf is) in
       ap₂ (λ (k t : ℕ). (CountsAdded.Added k t, zs₂, vs₂)) k t
-      ∙ ap (λ (u : Buffers ℕ × Answer Refusal Report). (countsAdded (u .1), u .0 .zuniqs, u .0 .values)) (map-left (countCalls 29 29 M T) 0 (record { number = 0; zuniqs = zs; values = vs }) (reverse pool) n zs₁ vs₁ zs₂ vs₂ (w .stands) is lz lv ez ev)
+      ∙ ap (λ (u : Buffers ℕ × Answer Refusal Report). (countsAdded (u .1), u .0 .zuniqs, u .0 .values)) (map-left (countCalls 29 P 29 M T) 0 (record { number = 0; zuniqs = zs; values = vs }) (reverse pool) n zs₁ vs₁ zs₂ vs₂ (w .stands) is lz lv ez ev)
 
 -- The same after the cells have been counted, which leaves the buffers as they were: there is too little space, or the pool is made.
-module _ (l r : List (Entry ℕ)) (M : ℕ) (T : Float) (zs vs zs′ vs′ : List ℕ) (cells : ℕ) where
+module _ (P : List ℕ) (l r : List (Entry ℕ)) (M : ℕ) (T : Float) (zs vs zs′ vs′ : List ℕ) (cells : ℕ) where
   abbrev walked : List (Entry ℕ)
   walked = kept poolRule (overlay splitCount 29 l r)
 
   abbrev Counted : Type 0
   Counted = (cells ≡ 0 + length walked) × (zs′ ≡ zs) × (vs′ ≡ vs)
 
-  pub pool-no-space : Counted → length zs′ < cells → (CountsAdded.Refused Refusal.NoSpace, zs′, vs′) ≡ poolOver 29 (placesRefusal (length zs) (length walked)) l r M T zs vs
+  pub pool-no-space : Counted → length zs′ < cells → (CountsAdded.Refused Refusal.NoSpace, zs′, vs′) ≡ poolOver P 29 (placesRefusal (length zs) (length walked)) l r M T zs vs
   unfolding poolOver placesRefusal
   pool-no-space c u = rw (lt-ltb (length zs) (length walked) (omega (arith, u, c .0, ap length (c .1)))) (λ i. (CountsAdded.Refused Refusal.NoSpace, c .1 i, c .2 i))
 
-  pub pool-made : Rises 29 0 (nHash 29) l → Rises 29 0 (nHash 29) r → Counted → cells ≤ length zs′ → (n sum : ℕ) (zs₁ vs₁ zs₂ vs₂ : List ℕ) → Added (acceptCounts M T) 29 0 walked zs′ vs′ n zs₁ vs₁
+  pub pool-made : Rises 29 0 (nHash 29) l → Rises 29 0 (nHash 29) r → Counted → cells ≤ length zs′ → (n sum : ℕ) (zs₁ vs₁ zs₂ vs₂ : List ℕ) → Added (acceptCounts 29 P M T) 29 0 walked zs′ vs′ n zs₁ vs₁
       → length zs₁ ≡ length zs′ → length vs₁ ≡ length vs′ → zs₂ ≡ take n zs₁ ++ replicate (length zs₁ - n) 0 → vs₂ ≡ take n vs₁ ++ replicate (length vs₁ - n) 0
-      → totalOf l + totalOf r ≡ sum → (CountsAdded.Added n sum, zs₂, vs₂) ≡ poolOver 29 (placesRefusal (length zs) (length walked)) l r M T zs vs
+      → totalOf l + totalOf r ≡ sum → (CountsAdded.Added n sum, zs₂, vs₂) ≡ poolOver P 29 (placesRefusal (length zs) (length walked)) l r M T zs vs
   unfolding placesRefusal
   pool-made p q c u n sum zs₁ vs₁ zs₂ vs₂ w lz lv ez ev es =
-      let a : Added (acceptCounts M T) 29 0 walked zs vs n zs₁ vs₁ = rw (c .1, c .2) at w in
-      rw (le-ltb (length zs) (length walked) (omega (arith, u, c .0, ap length (c .1)))) (pool-left l r p q M T zs vs n sum zs₁ vs₁ zs₂ vs₂ a (lz ∙ ap length (c .1)) (lv ∙ ap length (c .2)) ez ev es)
+      let a : Added (acceptCounts 29 P M T) 29 0 walked zs vs n zs₁ vs₁ = rw (c .1, c .2) at w in
+      rw (le-ltb (length zs) (length walked) (omega (arith, u, c .0, ap length (c .1)))) (pool-left P l r p q M T zs vs n sum zs₁ vs₁ zs₂ vs₂ a (lz ∙ ap length (c .1)) (lv ∙ ap length (c .2)) ez ev es)
 
 -- ---- the maps swapped
 or-swap : (a b c : Bool) → (a || (b || c)) ≡ (b || (a || c))
@@ -91,38 +94,38 @@ or-swap-two true false = refl
 or-swap-two false true = refl
 or-swap-two false false = refl
 
-module _ (l r : Given ℕ) (M : ℕ) (T : Float) where
+module _ (P : List ℕ) (l r : Given ℕ) (M : ℕ) (T : Float) where
   pool-cells-swapped : poolKept r l ≡ poolKept l r
   pool-cells-swapped =
       let c : resultDepth r l ≡ resultDepth l r = omega arith in
       ap (λ (K : ℕ). kept poolRule (overlay splitCount K (entries r) (entries l))) c
       ∙ ap (kept poolRule) (overlay-swap splitCount (entries l) (entries r) (resultDepth l r)) ∙ kept-swapped poolRule pool-rule-swapped (overlay splitCount (resultDepth l r) (entries l) (entries r))
 
-  pool-refusal-swapped : (places values : ℕ) → mapsRefusal l r ≡ none → mapsRefusal r l ≡ none → poolRefusal r l M T places values ≡ poolRefusal l r M T places values
+  pool-refusal-swapped : (places values : ℕ) → mapsRefusal l r ≡ none → mapsRefusal r l ≡ none → poolRefusal P r l M T places values ≡ poolRefusal P l r M T places values
   unfolding poolRefusal poolInputRefusal settingsRefusal pairsRefusal sumsRefusal
   pool-refusal-swapped places values a b =
       let s : sumOf (r .values) + sumOf (l .values) ≡ sumOf (l .values) + sumOf (r .values) = omega arith in
       rw (a, b, or-swap-two (ltb 29 (r .depth)) (ltb 29 (l .depth)), or-swap (not (eqb (length (r .zuniqs)) (length (r .values)))) (not (eqb (length (l .zuniqs)) (length (l .values)))) (not (eqb places values)), s, pool-cells-swapped) refl
 
   -- "Swapped, with all else handed in alike, they give the same answer and output": of two maps that the check passes.
-  pub pool-call-swapped : (zs vs : List ℕ) → mapsRefusal l r ≡ none → mapsRefusal r l ≡ none → poolCounts r l M T zs vs ≡ poolCounts l r M T zs vs
+  pub pool-call-swapped : (zs vs : List ℕ) → mapsRefusal l r ≡ none → mapsRefusal r l ≡ none → poolCounts P r l M T zs vs ≡ poolCounts P l r M T zs vs
   unfolding poolCounts poolOver
   pool-call-swapped zs vs a b =
       let c : resultDepth r l ≡ resultDepth l r = omega arith in
-      rw (c, pool-refusal-swapped (length zs) (length vs) a b, pool-swap (resultDepth l r) (entries l) (entries r) (acceptCounts M T)) refl
+      rw (c, pool-refusal-swapped (length zs) (length vs) a b, pool-swap (resultDepth l r) (entries l) (entries r) (acceptCounts 29 P M T)) refl
 
 -- ---- the call
-module _ (l r : Given ℕ) (M : ℕ) (T : Float) (zs vs : List ℕ) where
-  pub pool-refused : (x : Refusal) → poolInputRefusal l r M T (length zs) (length vs) ≡ some x → (CountsAdded.Refused x, zs, vs) ≡ poolCounts l r M T zs vs
+module _ (P : List ℕ) (l r : Given ℕ) (M : ℕ) (T : Float) (zs vs : List ℕ) where
+  pub pool-refused : (x : Refusal) → poolInputRefusal P l r M T (length zs) (length vs) ≡ some x → (CountsAdded.Refused x, zs, vs) ≡ poolCounts P l r M T zs vs
   unfolding poolCounts poolRefusal poolOver
   pool-refused x e = rw e refl
 
   pub passed-total : Passed l r (length zs) (length vs) → totalOf (entries l) + totalOf (entries r) ≡ sumOf (l .values) + sumOf (r .values)
   passed-total p = ap₂ _+_ (entries-total (l .depth) (l .zuniqs) (l .values) (p .left-paired) (p .left-valid)) (entries-total (r .depth) (r .zuniqs) (r .values) (p .right-paired) (p .right-valid))
 
-  pub pool-done : poolInputRefusal l r M T (length zs) (length vs) ≡ none → (t : CountsAdded × List ℕ × List ℕ)
-      → t ≡ poolOver 29 (placesRefusal (length zs) (length (kept poolRule (overlay splitCount 29 (entries l) (entries r))))) (entries l) (entries r) M T zs vs → t ≡ poolCounts l r M T zs vs
+  pub pool-done : poolInputRefusal P l r M T (length zs) (length vs) ≡ none → (t : CountsAdded × List ℕ × List ℕ)
+      → t ≡ poolOver P 29 (placesRefusal (length zs) (length (kept poolRule (overlay splitCount 29 (entries l) (entries r))))) (entries l) (entries r) M T zs vs → t ≡ poolCounts P l r M T zs vs
   unfolding poolCounts poolRefusal poolOver
   pool-done e t q =
-      let p = pool-input-passes l r M T (length zs) (length vs) e .0 in
-      rw e (q ∙ rw (kept-deeper l r _ _ p splitCount poolRule, combined-deeper l r _ _ p splitCount poolRule (acceptCounts M T)) refl)
+      let p = pool-input-passes P l r M T (length zs) (length vs) e .0 in
+      rw e (q ∙ rw (kept-deeper l r _ _ p splitCount poolRule, combined-deeper l r _ _ p splitCount poolRule (acceptCounts 29 P M T)) refl)

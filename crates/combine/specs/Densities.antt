@@ -80,6 +80,6 @@ abbrev pub CanShow : Pass → Float → ℕ → Saw Dhzv → List ℕ → List F
 CanShow pass k n s zs vs = (a : Answer) → cellsOf a ≡ keptOf (productRule k) (shownAs asEntry s) → Carries s a → CanKeepCells pass n a zs vs
 
 -- What is answered of the cells l behind n others: their number, or that one of them is not finite.
-abbrev pub CellsOutcome : Pass → ℕ → List (Entry Float) → List ℕ → List Float → Cells → List ℕ → List Float → Type 0
-CellsOutcome pass n l zs vs (Cells.Number r) zs′ vs′ = (someNotFinite l ≡ false) × Outcome pass acceptDensities n l zs vs r zs′ vs′
-CellsOutcome pass n l zs vs Cells.NotFinite zs′ vs′ = (someNotFinite l ≡ true) × Untouched pass zs vs zs′ vs′
+abbrev pub CellsOutcome : List ℕ → Pass → ℕ → List (Entry Float) → List ℕ → List Float → Cells → List ℕ → List Float → Type 0
+CellsOutcome P pass n l zs vs (Cells.Number r) zs′ vs′ = (someNotFinite l ≡ false) × Outcome pass (acceptDensities P) n l zs vs r zs′ vs′
+CellsOutcome P pass n l zs vs Cells.NotFinite zs′ vs′ = (someNotFinite l ≡ true) × Untouched pass zs vs zs′ vs′

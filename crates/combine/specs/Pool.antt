@@ -8,6 +8,7 @@ use lib.Dec.{eqb, ltb}
 use lib.Ieee.{Float, isNan}
 use lib.ListN.{length}
 use Rattle.refusal.specs.declared.Refusal.{Refusal}
+use Rattle.protection.specs.Protected.{protectedRefusal}
 use Rattle.merger.specs.Floats.{invalidDensity}
 use Rattle.merger.specs.Merge.{acceptCounts, acceptDensities}
 use Rattle.mom.specs.Map.{firstFault}
@@ -65,28 +66,29 @@ placesRefusal places cells = refusedIf (ltb places cells) Refusal.NoSpace
 abbrev pub poolKept : Given ℕ → Given ℕ → List (Entry ℕ)
 poolKept l r = kept poolRule (overlay splitCount (resultDepth l r) (entries l) (entries r))
 
--- Rows 1 to 5 and 10: the output has `places` zuniqs and `values` counts.
-unfoldable pub poolInputRefusal : Given ℕ → Given ℕ → ℕ → Float → ℕ → ℕ → Option Refusal
-poolInputRefusal l r M T places values =
+-- Rows 1 to 3, 15, 4, 5 and 10: P is the list of protected parents, the output has `places` zuniqs and `values` counts.
+unfoldable pub poolInputRefusal : List ℕ → Given ℕ → Given ℕ → ℕ → Float → ℕ → ℕ → Option Refusal
+poolInputRefusal P l r M T places values =
     orElse (settingsRefusal (l .depth) (r .depth) M T)
+    (orElse (protectedRefusal 29 P)
     (orElse (pairsRefusal (length (l .zuniqs)) (length (l .values)) (length (r .zuniqs)) (length (r .values)) places values)
     (orElse (mapsRefusal l r)
-    (sumsRefusal (sumOf (l .values)) (sumOf (r .values)))))
+    (sumsRefusal (sumOf (l .values)) (sumOf (r .values))))))
 
--- Rows 1 to 5, 10 and 11.
-unfoldable pub poolRefusal : Given ℕ → Given ℕ → ℕ → Float → ℕ → ℕ → Option Refusal
-poolRefusal l r M T places values = orElse (poolInputRefusal l r M T places values) (placesRefusal places (length (poolKept l r)))
+-- All rows: 11 too.
+unfoldable pub poolRefusal : List ℕ → Given ℕ → Given ℕ → ℕ → Float → ℕ → ℕ → Option Refusal
+poolRefusal P l r M T places values = orElse (poolInputRefusal P l r M T places values) (placesRefusal places (length (poolKept l r)))
 
 -- "Answer and places after it are as for add": the answer, and the output buffers afterwards, which held zs and vs. K is the result's
 -- depth, the refusal is given if there is one.
-unfoldable pub poolOver : ℕ → Option Refusal → List (Entry ℕ) → List (Entry ℕ) → ℕ → Float → List ℕ → List ℕ → CountsAdded × List ℕ × List ℕ
-poolOver K refusal l r M T zs vs =
-    let t = answered (countCalls 29 K M T) refusal (record { number = 0; zuniqs = zs; values = vs }) (reverse (definedPool (acceptCounts M T) K l r)) in
+unfoldable pub poolOver : List ℕ → ℕ → Option Refusal → List (Entry ℕ) → List (Entry ℕ) → ℕ → Float → List ℕ → List ℕ → CountsAdded × List ℕ × List ℕ
+poolOver P K refusal l r M T zs vs =
+    let t = answered (countCalls 29 P K M T) refusal (record { number = 0; zuniqs = zs; values = vs }) (reverse (definedPool (acceptCounts 29 P M T) K l r)) in
     (countsAdded (t .1), t .0 .zuniqs, t .0 .values)
 
 -- the call
-unfoldable pub poolCounts : Given ℕ → Given ℕ → ℕ → Float → List ℕ → List ℕ → CountsAdded × List ℕ × List ℕ
-poolCounts l r M T zs vs = poolOver (resultDepth l r) (poolRefusal l r M T (length zs) (length vs)) (entries l) (entries r) M T zs vs
+unfoldable pub poolCounts : List ℕ → Given ℕ → Given ℕ → ℕ → Float → List ℕ → List ℕ → CountsAdded × List ℕ × List ℕ
+poolCounts P l r M T zs vs = poolOver P (resultDepth l r) (poolRefusal P l r M T (length zs) (length vs)) (entries l) (entries r) M T zs vs
 
 -- ---- product
 abbrev pub productKept : Float → Given Float → Given Float → List (Entry Float)
@@ -104,27 +106,28 @@ mapDensitiesRefusal l r = orElse (densityRefusal 0 (l .values)) (densityRefusal 
 unfoldable pub finiteRefusal : List (Entry Float) → Option Refusal
 finiteRefusal l = refusedIf (someNotFinite l) Refusal.ProductNotFinite
 
--- Rows 1 to 6.
-unfoldable pub productInputRefusal : Given Float → Given Float → ℕ → Float → Float → ℕ → ℕ → Option Refusal
-productInputRefusal l r M T k places values =
+-- Rows 1 to 3, 15 and 4 to 6.
+unfoldable pub productInputRefusal : List ℕ → Given Float → Given Float → ℕ → Float → Float → ℕ → ℕ → Option Refusal
+productInputRefusal P l r M T k places values =
     orElse (settingsRefusal (l .depth) (r .depth) M T)
     (orElse (factorRefusal k)
+    (orElse (protectedRefusal 29 P)
     (orElse (pairsRefusal (length (l .zuniqs)) (length (l .values)) (length (r .zuniqs)) (length (r .values)) places values)
     (orElse (mapsRefusal l r)
-    (mapDensitiesRefusal l r))))
+    (mapDensitiesRefusal l r)))))
 
--- Rows 1 to 6, 10 and 11.
-unfoldable pub productRefusal : Given Float → Given Float → ℕ → Float → Float → ℕ → ℕ → Option Refusal
-productRefusal l r M T k places values =
-    orElse (productInputRefusal l r M T k places values)
+-- All rows: 10 and 11 too.
+unfoldable pub productRefusal : List ℕ → Given Float → Given Float → ℕ → Float → Float → ℕ → ℕ → Option Refusal
+productRefusal P l r M T k places values =
+    orElse (productInputRefusal P l r M T k places values)
     (orElse (finiteRefusal (productKept k l r))
     (placesRefusal places (length (productKept k l r))))
 
-unfoldable pub productOver : ℕ → Option Refusal → List (Entry Float) → List (Entry Float) → ℕ → Float → Float → List ℕ → List Float → DensitiesAdded × List ℕ × List Float
-productOver K refusal l r M T k zs vs =
-    let t = answered (densityCalls K M T) refusal (record { number = 0; zuniqs = zs; values = vs }) (reverse (definedProduct (acceptDensities M T) k K l r)) in
+unfoldable pub productOver : List ℕ → ℕ → Option Refusal → List (Entry Float) → List (Entry Float) → ℕ → Float → Float → List ℕ → List Float → DensitiesAdded × List ℕ × List Float
+productOver P K refusal l r M T k zs vs =
+    let t = answered (densityCalls P K M T) refusal (record { number = 0; zuniqs = zs; values = vs }) (reverse (definedProduct (acceptDensities P M T) k K l r)) in
     (densitiesAdded (t .1), t .0 .zuniqs, t .0 .values)
 
 -- the call
-unfoldable pub productDensities : Given Float → Given Float → ℕ → Float → Float → List ℕ → List Float → DensitiesAdded × List ℕ × List Float
-productDensities l r M T k zs vs = productOver (resultDepth l r) (productRefusal l r M T k (length zs) (length vs)) (entries l) (entries r) M T k zs vs
+unfoldable pub productDensities : List ℕ → Given Float → Given Float → ℕ → Float → Float → List ℕ → List Float → DensitiesAdded × List ℕ × List Float
+productDensities P l r M T k zs vs = productOver P (resultDepth l r) (productRefusal P l r M T k (length zs) (length vs)) (entries l) (entries r) M T k zs vs
