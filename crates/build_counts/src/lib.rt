@@ -7,6 +7,7 @@ ghost use lib.ListN.{length, getD, set, take};
 ghost use Rattle.zuniq.specs.Cells.{nHash};
 ghost use Rattle.zuniq.specs.Codec.{IsZuniqOf};
 ghost use Rattle.refusal.specs.declared.Refusal.{Refusal};
+ghost use Rattle.protection.specs.Protected.{RisingList};
 ghost use Rattle.merger.specs.Merge.{mergeCounts, acceptCounts};
 ghost use Rattle.refusal.specs.Checks.{orElse, checkOf};
 ghost use Rattle.build.specs.Map.{entry};
@@ -40,18 +41,20 @@ pub fn add_counts(
     depth: u8,
     depth_threshold: u8,
     chi2_threshold: f64,
+    protected: &[u64],
     held: usize,
     zuniqs: &mut [u64],
     counts: &mut [u32],
     hashes: &[u64],
     batch: &[u32],
 ) -> CountsAdded
-    ensures { λ r. ⌜ (r, now (zuniqs .exit), now (counts .exit)) ≡ addCounts 29 depth «depth_threshold» «chi2_threshold» held (now (zuniqs .entry)) (now (counts .entry)) (now (hashes .entry)) (now (batch .entry)) ⌝ }
+    ensures { λ r. ⌜ (r, now (zuniqs .exit), now (counts .exit)) ≡ addCounts 29 (now (protected .entry)) depth «depth_threshold» «chi2_threshold» held (now (zuniqs .entry)) (now (counts .entry)) (now (hashes .entry)) (now (batch .entry)) ⌝ }
 {
     let checked = check(
         depth,
         depth_threshold,
         chi2_threshold,
+        protected,
         held,
         &zuniqs[..],
         &counts[..],
@@ -70,6 +73,7 @@ pub fn add_counts(
                 batch,
                 depth_threshold,
                 chi2_threshold,
+                protected,
             );
             clear_zuniqs(&mut zuniqs[entries..]);
             clear_counts(&mut counts[entries..]);
@@ -83,18 +87,20 @@ fn check(
     depth: u8,
     depth_threshold: u8,
     chi2_threshold: f64,
+    protected: &[u64],
     held: usize,
     zuniqs: &[u64],
     counts: &[u32],
     hashes: &[u64],
     batch: &[u32],
 ) -> Total
-    ensures { λ r. ⌜ r ≡ totalOr (countsRefusal 29 depth «depth_threshold» «chi2_threshold» held (length (now (zuniqs .entry))) (length (now (counts .entry))) (take held (now (zuniqs .entry))) (take held (now (counts .entry))) (now (hashes .entry)) (now (batch .entry))) (sumOf (take held (now (counts .entry))) + sumOf (now (batch .entry))) ⌝ }
+    ensures { λ r. ⌜ r ≡ totalOr (countsRefusal 29 (now (protected .entry)) depth «depth_threshold» «chi2_threshold» held (length (now (zuniqs .entry))) (length (now (counts .entry))) (take held (now (zuniqs .entry))) (take held (now (counts .entry))) (now (hashes .entry)) (now (batch .entry))) (sumOf (take held (now (counts .entry))) + sumOf (now (batch .entry))) ⌝ }
 {
     match check_held(
         depth,
         depth_threshold,
         chi2_threshold,
+        protected,
         held,
         zuniqs,
         counts.len(),
@@ -148,11 +154,12 @@ fn push_all(
     batch: &[u32],
     depth_threshold: u8,
     chi2_threshold: f64,
+    protected: &[u64],
 ) -> usize
-    requires { ⌜ Stands 29 held (now zuniqs) (now counts) × (depth ≤ 29) × (length (now hashes) ≡ length (now batch)) × (held + length (now hashes) ≤ length (now zuniqs)) × (held + length (now hashes) ≤ length (now counts)) ⌝ }
+    requires { ⌜ Stands 29 held (now zuniqs) (now counts) × (depth ≤ 29) × (length (now hashes) ≡ length (now batch)) × (held + length (now hashes) ≤ length (now zuniqs)) × (held + length (now hashes) ≤ length (now counts)) × RisingList (now protected) ⌝ }
     requires { ⌜ Rising depth (now hashes) ⌝ }
     requires { ⌜ totalOf (heldMap 29 held (now zuniqs) (now counts)) + sumOf (now batch) ≤ 4294967295 ⌝ }
-    ensures { λ r. ⌜ Added (acceptCounts «depth_threshold» «chi2_threshold») 29 held (batchOf depth (now (hashes .entry)) (now (batch .entry))) (now (zuniqs .entry)) (now (counts .entry)) r (now (zuniqs .exit)) (now (counts .exit)) ⌝ }
+    ensures { λ r. ⌜ Added (acceptCounts 29 (now (protected .entry)) «depth_threshold» «chi2_threshold») 29 held (batchOf depth (now (hashes .entry)) (now (batch .entry))) (now (zuniqs .entry)) (now (counts .entry)) r (now (zuniqs .exit)) (now (counts .exit)) ⌝ }
 {
     let mut n = held;
     let mut i = 0;
@@ -171,6 +178,7 @@ fn push_all(
                 batch[i + 3],
                 depth_threshold,
                 chi2_threshold,
+                protected,
             );
             i += 4;
         } else {
@@ -184,6 +192,7 @@ fn push_all(
                 batch[i],
                 depth_threshold,
                 chi2_threshold,
+                protected,
             );
             i += 1;
         }
@@ -205,9 +214,10 @@ fn push_siblings(
     n3: u32,
     depth_threshold: u8,
     chi2_threshold: f64,
+    protected: &[u64],
 ) -> usize
-    requires { ⌜ Stands 29 n (now zuniqs) (now counts) × (n + 4 ≤ length (now zuniqs)) × (n + 4 ≤ length (now counts)) × (0 < depth) × (depth ≤ 29) × (hash + 3 < nHash depth) × (hash % 4 ≡ 0) × (n0 + n1 + n2 + n3 + totalOf (held 29 n (now zuniqs) (now counts)) ≤ 4294967295) ⌝ }
-    ensures { λ r. ⌜ Added (acceptCounts «depth_threshold» «chi2_threshold») 29 n (siblings depth hash n0 n1 n2 n3) (now (zuniqs .entry)) (now (counts .entry)) r (now (zuniqs .exit)) (now (counts .exit)) ⌝ }
+    requires { ⌜ Stands 29 n (now zuniqs) (now counts) × (n + 4 ≤ length (now zuniqs)) × (n + 4 ≤ length (now counts)) × (0 < depth) × (depth ≤ 29) × (hash + 3 < nHash depth) × (hash % 4 ≡ 0) × (n0 + n1 + n2 + n3 + totalOf (held 29 n (now zuniqs) (now counts)) ≤ 4294967295) × RisingList (now protected) ⌝ }
+    ensures { λ r. ⌜ Added (acceptCounts 29 (now (protected .entry)) «depth_threshold» «chi2_threshold») 29 n (siblings depth hash n0 n1 n2 n3) (now (zuniqs .entry)) (now (counts .entry)) r (now (zuniqs .exit)) (now (counts .exit)) ⌝ }
 {
     let parent_depth = depth - 1;
     let parent_hash = hash / 4;
@@ -216,6 +226,7 @@ fn push_siblings(
         parent_hash,
         depth_threshold,
         chi2_threshold,
+        protected,
         n0,
         n1,
         n2,
@@ -238,6 +249,7 @@ fn push_siblings(
         count,
         depth_threshold,
         chi2_threshold,
+        protected,
     )
 }
 
@@ -278,9 +290,10 @@ pub fn push(
     count: u32,
     depth_threshold: u8,
     chi2_threshold: f64,
+    protected: &[u64],
 ) -> usize
-    requires { ⌜ Stands 29 n (now zuniqs) (now counts) × (n < length (now zuniqs)) × (n < length (now counts)) × IsZuniqOf 29 zuniq depth hash × (count + totalOf (held 29 n (now zuniqs) (now counts)) ≤ 4294967295) ⌝ }
-    ensures { λ r. ⌜ Pushed (acceptCounts «depth_threshold» «chi2_threshold») 29 n (entry depth hash count) (now (zuniqs .entry)) (now (counts .entry)) r (now (zuniqs .exit)) (now (counts .exit)) ⌝ }
+    requires { ⌜ Stands 29 n (now zuniqs) (now counts) × (n < length (now zuniqs)) × (n < length (now counts)) × IsZuniqOf 29 zuniq depth hash × (count + totalOf (held 29 n (now zuniqs) (now counts)) ≤ 4294967295) × RisingList (now protected) ⌝ }
+    ensures { λ r. ⌜ Pushed (acceptCounts 29 (now (protected .entry)) «depth_threshold» «chi2_threshold») 29 n (entry depth hash count) (now (zuniqs .entry)) (now (counts .entry)) r (now (zuniqs .exit)) (now (counts .exit)) ⌝ }
 {
     append(zuniqs, counts, n, zuniq, count);
     // Most cells are no fourth child: for them that is all.
@@ -296,6 +309,7 @@ pub fn push(
         count,
         depth_threshold,
         chi2_threshold,
+        protected,
     )
 }
 
@@ -320,9 +334,10 @@ fn collapse(
     last_count: u32,
     depth_threshold: u8,
     chi2_threshold: f64,
+    protected: &[u64],
 ) -> usize
-    requires { ⌜ (0 < len) × Stands 29 len (now zuniqs) (now counts) × IsZuniqOf 29 (getD (now zuniqs) (len - 1) 0) «last_depth» «last_hash» × (getD (now counts) (len - 1) 0 ≡ «last_count») × (totalOf (held 29 len (now zuniqs) (now counts)) ≤ 4294967295) ⌝ }
-    ensures { λ r. ⌜ Collapsed (acceptCounts «depth_threshold» «chi2_threshold») 29 len (now (zuniqs .entry)) (now (counts .entry)) r (now (zuniqs .exit)) (now (counts .exit)) ⌝ }
+    requires { ⌜ (0 < len) × Stands 29 len (now zuniqs) (now counts) × IsZuniqOf 29 (getD (now zuniqs) (len - 1) 0) «last_depth» «last_hash» × (getD (now counts) (len - 1) 0 ≡ «last_count») × (totalOf (held 29 len (now zuniqs) (now counts)) ≤ 4294967295) × RisingList (now protected) ⌝ }
+    ensures { λ r. ⌜ Collapsed (acceptCounts 29 (now (protected .entry)) «depth_threshold» «chi2_threshold») 29 len (now (zuniqs .entry)) (now (counts .entry)) r (now (zuniqs .exit)) (now (counts .exit)) ⌝ }
 {
     let mut n = len;
     let mut depth = last_depth;
@@ -342,6 +357,7 @@ fn collapse(
             hash,
             depth_threshold,
             chi2_threshold,
+            protected,
         ) else {
             return n;
         };
@@ -363,15 +379,17 @@ pub fn merge_last(
     parent_hash: u64,
     depth_threshold: u8,
     chi2_threshold: f64,
+    protected: &[u64],
 ) -> CountMerge
-    requires { ⌜ (4 ≤ n) × (n ≤ length (now counts)) × (getD (now counts) (n - 4) 0 + getD (now counts) (n - 3) 0 + getD (now counts) (n - 2) 0 + last ≤ 4294967295) ⌝ }
-    ensures { λ r. ⌜ r ≡ mergeCounts «depth_threshold» «chi2_threshold» «parent_depth» «parent_hash» (getD (now (counts .entry)) (n - 4) 0) (getD (now (counts .entry)) (n - 3) 0) (getD (now (counts .entry)) (n - 2) 0) last ⌝ }
+    requires { ⌜ (4 ≤ n) × (n ≤ length (now counts)) × (getD (now counts) (n - 4) 0 + getD (now counts) (n - 3) 0 + getD (now counts) (n - 2) 0 + last ≤ 4294967295) × («parent_depth» ≤ 29) × («parent_hash» < nHash «parent_depth») × RisingList (now protected) ⌝ }
+    ensures { λ r. ⌜ r ≡ mergeCounts 29 (now (protected .entry)) «depth_threshold» «chi2_threshold» «parent_depth» «parent_hash» (getD (now (counts .entry)) (n - 4) 0) (getD (now (counts .entry)) (n - 3) 0) (getD (now (counts .entry)) (n - 2) 0) last ⌝ }
 {
     merge_counts(
         parent_depth,
         parent_hash,
         depth_threshold,
         chi2_threshold,
+        protected,
         counts[n - 4],
         counts[n - 3],
         counts[n - 2],

@@ -14,20 +14,20 @@ use Rattle.build_counts.proofs.push_siblings.Statement.{statement}
 use Rattle.build_counts.proofs.push_siblings.Tie as tie
 
 abbrev start : tie.After-merge-counts → tie.Start
-start c = c .before .before .before
+start c = c .before .before .before .before
 
 -- ---- the parent
-parent : (c : tie.After-merge-counts) → let a = start c .args in IsZuniqOf 29 (zuniq 29 (a .depth - 1) (a .hash / 4)) (a .depth - 1) (a .hash / 4)
-parent c =
-    let a = start c .args in
-    let p = start c .pre in
+parent : (s : tie.Start) → let a = s .args in IsZuniqOf 29 (zuniq 29 (a .depth - 1) (a .hash / 4)) (a .depth - 1) (a .hash / 4)
+parent s =
+    let a = s .args in
+    let p = s .pre in
     let first : IsZuniqOf 29 (zuniq 29 (a .depth) (a .hash)) (a .depth) (a .hash) = record { deep = p .4; hash = omega (arith, p .5); is = refl } in
     parent-zuniq (p .3) first
 
-merged : (c : tie.After-count) → let a = start (c .before .before) .args in acceptCounts (a .depth-threshold) (a .chi2-threshold) (a .depth - 1) (a .hash / 4) (a .n0) (a .n1) (a .n2) (a .n3) ≡ some (c .count .given .0 .0)
+merged : (c : tie.After-count) → let a = start (c .before .before) .args in acceptCounts 29 (a .protected .now) (a .depth-threshold) (a .chi2-threshold) (a .depth - 1) (a .hash / 4) (a .n0) (a .n1) (a .n2) (a .n3) ≡ some (c .count .given .0 .0)
 merged c =
     let a = start (c .before .before) .args in
-    accept-counts-iff-merged (a .depth-threshold) (a .chi2-threshold) (a .depth - 1) (a .hash / 4) (a .n0) (a .n1) (a .n2) (a .n3) _ .1 (sym (c .before .before .merge-counts .ensures) ∙ c .count .given .1)
+    accept-counts-iff-merged 29 (a .protected .now) (a .depth-threshold) (a .chi2-threshold) (a .depth - 1) (a .hash / 4) (a .n0) (a .n1) (a .n2) (a .n3) _ .1 (sym (c .before .before .merge-counts .ensures) ∙ c .count .given .1)
 
 -- ---- is appended
 abbrev accepted : tie.After-append → tie.After-count
@@ -37,7 +37,7 @@ put : (c : tie.After-append) → let a = start (accepted c .before .before) .arg
     Stored 29 (a .n) (c .before .before .before .to-zuniq-unchecked .result) (a .depth - 1) (a .hash / 4) (accepted c .count .given .0 .0) (a .zuniqs .now) (a .counts .now) (c .append .last .0) (c .append .last .1 .0)
 put c =
     let p = start (accepted c .before .before) .pre in
-    let v = parent (accepted c .before .before) in
+    let v = parent (start (accepted c .before .before)) in
     stored 29 (p .0) (omega (arith, p .1)) (omega (arith, p .2)) (record { deep = v .deep; hash = v .hash; is = c .before .before .before .to-zuniq-unchecked .ensures }) (c .append .ensures)
 
 -- ---- the answers
@@ -45,7 +45,10 @@ sub-parent-depth : tie.Need-sub-parent-depth
 sub-parent-depth c = search needs
 
 merge-counts-requires : tie.Need-merge-counts-requires
-merge-counts-requires c κs = search needs
+merge-counts-requires c κs =
+    let s = c .before .before .before in
+    let v = parent s in
+    (omega (arith, s .pre .7), v .deep, v .hash, s .pre .8)
 
 enum-known-count : tie.Need-enum-known-count
 enum-known-count c = search needs
@@ -70,11 +73,11 @@ returns c =
     let k = c .before .before .before .before .before .before .before in
     let s = start (k .before .before) in
     let a = s .args in
-    let kept = reject-counts-iff-kept (a .depth-threshold) (a .chi2-threshold) (a .depth - 1) (a .hash / 4) (a .n0) (a .n1) (a .n2) (a .n3) .1 (_, sym (k .before .before .merge-counts .ensures) ∙ k .enum-told .given .1) in
+    let kept = reject-counts-iff-kept 29 (a .protected .now) (a .depth-threshold) (a .chi2-threshold) (a .depth - 1) (a .hash / 4) (a .n0) (a .n1) (a .n2) (a .n3) .1 (_, sym (k .before .before .merge-counts .ensures) ∙ k .enum-told .given .1) in
     kept-added (s .pre .3) (s .pre .6) kept (c .before .before .before .before .append-siblings .ensures)
 
 to-zuniq-unchecked-requires : tie.Need-to-zuniq-unchecked-requires
-to-zuniq-unchecked-requires c κs = let v = parent (c .before .before .before) in (v .deep, v .hash)
+to-zuniq-unchecked-requires c κs = let v = parent (start (c .before .before .before)) in (v .deep, v .hash)
 
 append-requires : tie.Need-append-requires
 append-requires c κs = search needs
@@ -102,8 +105,8 @@ collapse-requires c κs =
     let s = put (c .before .before .before .before .before .before .before) in
     let m = accepted (c .before .before .before .before .before .before .before) in
     let a = start (m .before .before) .args in
-    let sum = accepted-count-is-sum (a .depth-threshold) (a .chi2-threshold) (a .depth - 1) (a .hash / 4) (a .n0) (a .n1) (a .n2) (a .n3) _ (merged m) in
-    (omega arith, s .stands, s .top, s .value 0, rw (s .map-is) (omega (arith, start (m .before .before) .pre .7, sum)))
+    let sum = accepted-count-is-sum 29 (a .protected .now) (a .depth-threshold) (a .chi2-threshold) (a .depth - 1) (a .hash / 4) (a .n0) (a .n1) (a .n2) (a .n3) _ (merged m) in
+    (omega arith, s .stands, s .top, s .value 0, rw (s .map-is) (omega (arith, start (m .before .before) .pre .7, sum)), start (m .before .before) .pre .8)
 
 same-length-5 : tie.Need-same-length-5
 same-length-5 c = search needs
