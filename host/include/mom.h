@@ -30,6 +30,13 @@
  * past N(29), and each starts above the end of the one before, so that no two touch. A cell lies inside
  * a coverage where all its cells of depth 29 do.
  *
+ * A protected parent is a cell that may never swallow its children. Every function that merges takes a
+ * list of them, protected_parents: their zuniqs, narrow ones for a narrow map. It is valid where each
+ * is a valid zuniq and above the one before; its cells may lie inside one another. Four children whose
+ * parent is listed are kept, whatever their chi-square; only blank sky, four counts of 0, is merged all
+ * the same. A list that is empty changes nothing. Batches that are added to one map, in however many
+ * calls, come under the same list.
+ *
  * As bytes a map is rows, one for each entry: the zuniq in 8 bytes, then the count in 4 or the
  * density in 8, each little-endian, with nothing between rows. A density is handed over as its
  * 64-bit pattern, so that every pattern comes back, those of NaNs too. A row of a narrow map is the
@@ -90,6 +97,7 @@ extern "C" {
 #define MOM_NOT_A_ZUNIQ 12
 #define MOM_ENTRY_TOO_DEEP 13
 #define MOM_INVALID_RANGE 14
+#define MOM_INVALID_PROTECTED 15
 
 /* The code of an answer: MOM_ACCEPTED, a refusal's number, MOM_NONE, MOM_KEPT or a fault. */
 static inline uint8_t mom_code(uint64_t word) { return (uint8_t)(word >> 56); }
@@ -177,25 +185,29 @@ uint64_t mom_from_zuniq(uint64_t zuniq, uint8_t *depth, uint64_t *hash);
  * Refuses by 12: one of the two isn't a valid zuniq; place 0 is the left one, 1 the right one. */
 uint64_t mom_are_overlapping(uint64_t zuniq_l, uint64_t zuniq_r);
 
-/* The counts of the four children of a cell at parent_depth are merged where parent_depth is at
- * least depth_threshold and their chi-square is below chi2_threshold. Four counts of 0, blank sky,
- * are merged at any chi2_threshold, from depth_threshold on. The value is then their sum, the
- * parent's count, and *chi2 is left as it was. Otherwise the answer is MOM_KEPT, and *chi2 = their
- * chi-square.
+/* The counts of the four children of the cell (parent_depth, parent_hash) are merged where
+ * parent_depth is at least depth_threshold, their chi-square is below chi2_threshold and the cell is
+ * no protected parent. Four counts of 0, blank sky, are merged at any chi2_threshold, from
+ * depth_threshold on, under a protected parent too. The value is then their sum, the parent's count,
+ * and *chi2 is left as it was. Otherwise the answer is MOM_KEPT, and *chi2 = their chi-square.
  * Refuses by 1: parent_depth is over 28; then by 2: depth_threshold is over 29; then by 3:
- * chi2_threshold is a NaN; then by 10: the sum of the four is over 2^32 - 1. */
-uint64_t mom_chi2_count_merger(uint8_t parent_depth, uint8_t depth_threshold, double chi2_threshold,
+ * chi2_threshold is a NaN; then by 15: a protected parent isn't a valid zuniq, or isn't above the one
+ * before, the place is its index; then by 7: parent_hash is N(parent_depth) or more; then by 10: the
+ * sum of the four is over 2^32 - 1. */
+uint64_t mom_chi2_count_merger(uint8_t parent_depth, uint64_t parent_hash, uint8_t depth_threshold,
+                               double chi2_threshold, const uint64_t *protected_parents, size_t pl,
                                uint32_t n0, uint32_t n1, uint32_t n2, uint32_t n3, double *chi2);
 
-/* The densities of the four children are merged where parent_depth is at least depth_threshold and
- * their chi-square is below chi2_threshold; four of 0 are judged by it like others. *answer = a
- * quarter of their sum, the parent's density, or with MOM_KEPT their chi-square, which may be NaN or
- * infinite where the sum is near the largest double or past it.
- * Refuses by 1, 2 and 3 as for counts; then by 9: a density is NaN, infinite or below 0 (-0 is none
- * of these); the place is the first such child, 0 to 3. */
-uint64_t mom_chi2_density_merger(uint8_t parent_depth, uint8_t depth_threshold,
-                                 double chi2_threshold, double m0, double m1, double m2, double m3,
-                                 double *answer);
+/* The densities of the four children are merged where parent_depth is at least depth_threshold, their
+ * chi-square is below chi2_threshold and the cell is no protected parent; four of 0 are judged like
+ * others. *answer = a quarter of their sum, the parent's density, or with MOM_KEPT their chi-square,
+ * which may be NaN or infinite where the sum is near the largest double or past it.
+ * Refuses by 1, 2, 3, 15 and 7 as for counts; then by 9: a density is NaN, infinite or below 0 (-0 is
+ * none of these); the place is the first such child, 0 to 3. */
+uint64_t mom_chi2_density_merger(uint8_t parent_depth, uint64_t parent_hash,
+                                 uint8_t depth_threshold, double chi2_threshold,
+                                 const uint64_t *protected_parents, size_t pl, double m0, double m1,
+                                 double m2, double m3, double *answer);
 
 /* Whether the len zuniqs are a valid map of that depth: MOM_ACCEPTED, or the first faulty place and
  * the first fault there of: not a zuniq, too deep, not above its predecessor, overlapping it.
@@ -218,18 +230,21 @@ uint64_t mom_get_overlapped_cells_zuniqs(const uint64_t *zuniqs, size_t len, uin
 
 /* Adds cells of that depth, given by hashes and their counts in batch, to the map in the first held
  * places of zuniqs and counts. Each cell is appended; while the last four entries are the children
- * of one parent and the count merger accepts them under depth_threshold and chi2_threshold, they
- * are replaced by the parent: blank sky at any chi2_threshold. Cells of depth 0 have no parent, and
- * stay as they are. The value is the new number of entries and *total = the sum of their counts;
- * every place after the entries is 0. By a refusal both buffers and *total are left as they were.
+ * of one parent and the count merger accepts them under depth_threshold, chi2_threshold and
+ * protected_parents, they are replaced by the parent: blank sky at any chi2_threshold. Cells of
+ * depth 0 have no parent, and stay as they are. The value is the new number of entries and *total =
+ * the sum of their counts; every place after the entries is 0. By a refusal both buffers and *total
+ * are left as they were.
  * Refuses by 1: the depth is over 29; then by 2: depth_threshold is over 29; then by 3:
- * chi2_threshold is a NaN; then by 4: zl isn't cl, hl isn't bl, or held is over zl; then by 5: the
- * held entries are no valid map of that depth, the place is the faulty entry; then, cell by cell,
+ * chi2_threshold is a NaN; then by 15: a protected parent isn't a valid zuniq, or isn't above the one
+ * before, the place is its index; then by 4: zl isn't cl, hl isn't bl, or held is over zl; then by 5:
+ * the held entries are no valid map of that depth, the place is the faulty entry; then, cell by cell,
  * by 7: its hash is N(depth) or more, and by 8: it isn't above the one before it, or the first
  * starts before the last held entry ends, the place is the cell; then by 10: held counts and batch
  * together are over 2^32 - 1, the place is the cell that passes it, 0 where the held ones alone do;
  * then by 11: held + hl is over zl. */
-uint64_t mom_add_counts(uint8_t depth, uint8_t depth_threshold, double chi2_threshold, size_t held,
+uint64_t mom_add_counts(uint8_t depth, uint8_t depth_threshold, double chi2_threshold,
+                        const uint64_t *protected_parents, size_t pl, size_t held,
                         uint64_t *zuniqs, size_t zl, uint32_t *counts, size_t cl,
                         const uint64_t *hashes, size_t hl, const uint32_t *batch, size_t bl,
                         uint32_t *total);
@@ -238,41 +253,44 @@ uint64_t mom_add_counts(uint8_t depth, uint8_t depth_threshold, double chi2_thre
  * held places of zuniqs and densities, as mom_add_counts does, by the density merger. The value is
  * the new number of entries; every place after the entries is 0. By a refusal both buffers are left
  * as they were.
- * Refuses by 1 to 5 as for counts, dl standing for cl; then by 6: a held density is NaN, infinite or
- * below 0 (-0 is none of these), the place is the entry; then, cell by cell, by 7 and 8 as for
- * counts, and by 9: its density is NaN, infinite or below 0, the place is the cell; then by 11:
- * held + hl is over zl. */
+ * Refuses by 1, 2, 3, 15, 4 and 5 as for counts, dl standing for cl; then by 6: a held density is
+ * NaN, infinite or below 0 (-0 is none of these), the place is the entry; then, cell by cell, by 7 and
+ * 8 as for counts, and by 9: its density is NaN, infinite or below 0, the place is the cell; then by
+ * 11: held + hl is over zl. */
 uint64_t mom_add_densities(uint8_t depth, uint8_t depth_threshold, double chi2_threshold,
-                           size_t held, uint64_t *zuniqs, size_t zl, double *densities, size_t dl,
+                           const uint64_t *protected_parents, size_t pl, size_t held,
+                           uint64_t *zuniqs, size_t zl, double *densities, size_t dl,
                            const uint64_t *hashes, size_t hl, const double *batch, size_t bl);
 
 /* Pools two count maps, each with a depth of its own, into zuniqs and counts, which may hold
  * anything. A cell that one map has keeps its count, a cell that both have gets the sum. An
  * entry of one map that has entries of the other in it is split: each of its children gets a
  * quarter of its count, and the first ones one more each, as many as are left over; so on, level
- * by level. The cells are then merged by the count merger under depth_threshold and
- * chi2_threshold, as mom_add_counts does: blank sky at any chi2_threshold. The value is the number
+ * by level. The cells are then merged by the count merger under depth_threshold, chi2_threshold and
+ * protected_parents, as mom_add_counts does: blank sky at any chi2_threshold. The value is the number
  * of entries and *total = the sum of their counts; every place after the entries is 0. By a refusal
  * both buffers and *total are left as they were.
  * Refuses by 1: a map's depth is over 29; then by 2: depth_threshold is over 29; then by 3:
- * chi2_threshold is a NaN; then by 4: lzl isn't lcl, rzl isn't rcl, or zl isn't cl; then by 5: a
- * map is no valid map of its depth, the place is its first faulty entry, and the left map goes
+ * chi2_threshold is a NaN; then by 15: a protected parent isn't a valid zuniq, or isn't above the one
+ * before, the place is its index; then by 4: lzl isn't lcl, rzl isn't rcl, or zl isn't cl; then by 5:
+ * a map is no valid map of its depth, the place is its first faulty entry, and the left map goes
  * before the right one; then by 10: all counts together are over 2^32 - 1; then by 11: zl is
  * less than the number of cells before they are merged. */
 uint64_t mom_pool(uint8_t left_depth, const uint64_t *left_zuniqs, size_t lzl,
                   const uint32_t *left_counts, size_t lcl, uint8_t right_depth,
                   const uint64_t *right_zuniqs, size_t rzl, const uint32_t *right_counts,
-                  size_t rcl, uint8_t depth_threshold, double chi2_threshold, uint64_t *zuniqs,
-                  size_t zl, uint32_t *counts, size_t cl, uint32_t *total);
+                  size_t rcl, uint8_t depth_threshold, double chi2_threshold,
+                  const uint64_t *protected_parents, size_t pl, uint64_t *zuniqs, size_t zl,
+                  uint32_t *counts, size_t cl, uint32_t *total);
 
 /* Multiplies two density maps, each with a depth of its own, into zuniqs and densities, which may
  * hold anything. A cell that both maps have gets (k * left) * right, a cell that one map has is
  * dropped. An entry of one map that has entries of the other in it is split: a child has its
- * parent's density. The products are then merged by the density merger under depth_threshold and
- * chi2_threshold. The value is the number of entries; every place after the entries is 0. By a
- * refusal both buffers are left as they were.
+ * parent's density. The products are then merged by the density merger under depth_threshold,
+ * chi2_threshold and protected_parents. The value is the number of entries; every place after the
+ * entries is 0. By a refusal both buffers are left as they were.
  * Refuses by 1 and 2 as mom_pool does; then by 3: chi2_threshold is a NaN, or k is NaN, infinite
- * or below 0 (-0 is none of these); then by 4 and 5 as mom_pool does, with ldl, rdl and dl for
+ * or below 0 (-0 is none of these); then by 15, 4 and 5 as mom_pool does, with ldl, rdl and dl for
  * lcl, rcl and cl; then by 6: a density is NaN, infinite or below 0, the place is its entry, and
  * the left map goes before the right one; then by 10: the product of a cell before merging is not
  * finite; then by 11: zl is less than the number of products before they are merged. */
@@ -280,7 +298,8 @@ uint64_t mom_product(uint8_t left_depth, const uint64_t *left_zuniqs, size_t lzl
                      const double *left_densities, size_t ldl, uint8_t right_depth,
                      const uint64_t *right_zuniqs, size_t rzl, const double *right_densities,
                      size_t rdl, uint8_t depth_threshold, double chi2_threshold, double k,
-                     uint64_t *zuniqs, size_t zl, double *densities, size_t dl);
+                     const uint64_t *protected_parents, size_t pl, uint64_t *zuniqs, size_t zl,
+                     double *densities, size_t dl);
 
 /* ---- Narrow maps */
 
@@ -356,9 +375,10 @@ uint64_t mom32_get_overlapped_cells_zuniqs(const uint32_t *zuniqs, size_t len, u
  * any chi2_threshold. The value is the new number of entries and *total = the sum of their counts;
  * every place after the entries is 0. By a refusal both buffers and *total are left as they were.
  * Refuses by 1: the depth is over 13; then by 2: depth_threshold is over 29 (from 13 on nothing is
- * merged); then by 3, 4, 5, 7, 8, 10 and 11 as mom_add_counts does, the held entries being a narrow
- * map. */
-uint64_t mom32_add_counts(uint8_t depth, uint8_t depth_threshold, double chi2_threshold, size_t held,
+ * merged); then by 3, 15, 4, 5, 7, 8, 10 and 11 as mom_add_counts does, the protected parents being
+ * narrow zuniqs and the held entries a narrow map. */
+uint64_t mom32_add_counts(uint8_t depth, uint8_t depth_threshold, double chi2_threshold,
+                          const uint32_t *protected_parents, size_t pl, size_t held,
                           uint32_t *zuniqs, size_t zl, uint32_t *counts, size_t cl,
                           const uint32_t *hashes, size_t hl, const uint32_t *batch, size_t bl,
                           uint32_t *total);

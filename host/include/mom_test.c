@@ -21,6 +21,10 @@ static int answers(uint64_t word, uint8_t code, uint64_t value) {
     return mom_code(word) == code && mom_value(word) == value;
 }
 
+/* Empty lists of protected parents. What stands behind the pointer is no zuniq, and isn't read. */
+static const uint64_t unlisted[1] = {0};
+static const uint32_t unlisted32[1] = {0};
+
 /* Two rows, then a byte more: the zuniqs 1 and 3 with the counts 258 and 4. */
 static const uint8_t count_rows[25] = {1, 0, 0, 0, 0, 0, 0, 0, 2, 1, 0, 0,
                                        3, 0, 0, 0, 0, 0, 0, 0, 4, 0, 0, 0, 9};
@@ -137,8 +141,8 @@ static struct pooled pool(uint8_t left_depth, size_t right_len, uint8_t m, doubl
     const uint64_t left[1] = {UINT64_C(1) << 58}, right[1] = {UINT64_C(3) << 56};
     const uint32_t ten[1] = {10}, three[1] = {3};
     struct pooled p = {0, {5, 5, 5, 5, 5}, {5, 5, 5, 5, 5}, 5};
-    p.word = mom_pool(left_depth, left, 1, ten, 1, 1, right, right_len, three, 1, m, t, p.zuniqs,
-                      zl, p.counts, cl, &p.total);
+    p.word = mom_pool(left_depth, left, 1, ten, 1, 1, right, right_len, three, 1, m, t, unlisted, 0,
+                      p.zuniqs, zl, p.counts, cl, &p.total);
     return p;
 }
 
@@ -174,19 +178,19 @@ static void pooling(void) {
            p.counts[4] == 5, "a pool of 13");
 
     /* Both maps the same memory. */
-    expect(answers(mom_pool(1, faulty, 2, largest, 2, 1, faulty, 2, largest, 2, 0, 2, p.zuniqs, 5,
-                            p.counts, 5, &p.total),
+    expect(answers(mom_pool(1, faulty, 2, largest, 2, 1, faulty, 2, largest, 2, 0, 2, unlisted, 0,
+                            p.zuniqs, 5, p.counts, 5, &p.total),
                    MOM_INVALID_MAP, 1) && p.total == 13, "a pool of what is no map");
-    expect(answers(mom_pool(1, faulty, 1, largest, 1, 1, faulty, 1, largest + 1, 1, 0, 2, p.zuniqs,
-                            5, p.counts, 5, &p.total),
+    expect(answers(mom_pool(1, faulty, 1, largest, 1, 1, faulty, 1, largest + 1, 1, 0, 2, unlisted,
+                            0, p.zuniqs, 5, p.counts, 5, &p.total),
                    MOM_COUNT_OVERFLOW, 0) && p.total == 13 && p.zuniqs[0] == base,
            "a pool of 2^32");
     expect(answers(mom_pool(1, faulty, 1, largest + 1, 1, 1, faulty, 1, largest + 1, 1, 0, 2,
-                            p.zuniqs, 5, p.counts, 5, &p.total),
+                            unlisted, 0, p.zuniqs, 5, p.counts, 5, &p.total),
                    MOM_ACCEPTED, 1) && p.total == 2 && p.zuniqs[0] == first && p.counts[0] == 2 &&
            p.zuniqs[4] == 0 && p.counts[4] == 0, "a pool of a map with itself");
-    expect(answers(mom_pool(0, faulty, 0, largest, 0, 29, faulty, 0, largest, 0, 0, 2, p.zuniqs, 5,
-                            p.counts, 5, &p.total),
+    expect(answers(mom_pool(0, faulty, 0, largest, 0, 29, faulty, 0, largest, 0, 0, 2, unlisted, 0,
+                            p.zuniqs, 5, p.counts, 5, &p.total),
                    MOM_ACCEPTED, 0) && p.total == 0 && p.zuniqs[0] == 0 && p.counts[0] == 0,
            "a pool of no entries");
 }
@@ -194,15 +198,15 @@ static void pooling(void) {
 /* Whether four counts are merged to 0, with the chi-square left alone. */
 static int merges_to_0(uint8_t p, uint8_t m, double t) {
     double chi2 = 5.5;
-    return answers(mom_chi2_count_merger(p, m, t, 0, 0, 0, 0, &chi2), MOM_ACCEPTED, 0) &&
-           chi2 == 5.5;
+    return answers(mom_chi2_count_merger(p, 0, m, t, unlisted, 0, 0, 0, 0, 0, &chi2),
+                   MOM_ACCEPTED, 0) && chi2 == 5.5;
 }
 
 /* Whether they are kept by M, with a chi-square of +0. */
 static int keeps_blanks(uint8_t p, uint8_t m, double t) {
     double chi2 = 5.5;
-    return answers(mom_chi2_count_merger(p, m, t, 0, 0, 0, 0, &chi2), MOM_KEPT, 0) && chi2 == 0 &&
-           !signbit(chi2);
+    return answers(mom_chi2_count_merger(p, 0, m, t, unlisted, 0, 0, 0, 0, 0, &chi2),
+                   MOM_KEPT, 0) && chi2 == 0 && !signbit(chi2);
 }
 
 /* Adding sixteen blank cells of depth 2 in two calls, cut behind so many; then whether so many
@@ -214,10 +218,11 @@ static int adds_blanks(uint8_t m, double t, size_t cut, size_t entries, uint8_t 
     uint32_t counts[16] = {5}, total = 5;
     int all;
 
-    word = mom_add_counts(2, m, t, 0, zuniqs, 16, counts, 16, hashes, cut, blank, cut, &total);
+    word = mom_add_counts(2, m, t, unlisted, 0, 0, zuniqs, 16, counts, 16, hashes, cut, blank, cut,
+                          &total);
     all = mom_code(word) == MOM_ACCEPTED && total == 0;
-    word = mom_add_counts(2, m, t, (size_t)mom_value(word), zuniqs, 16, counts, 16, hashes + cut,
-                          16 - cut, blank, 16 - cut, &total);
+    word = mom_add_counts(2, m, t, unlisted, 0, (size_t)mom_value(word), zuniqs, 16, counts, 16,
+                          hashes + cut, 16 - cut, blank, 16 - cut, &total);
     all = all && answers(word, MOM_ACCEPTED, entries) && total == 0;
     for (size_t i = 0; i < 16; i++) {
         uint64_t zuniq = i < entries ? (2 * i + 1) << (2 * (29 - depth)) : 0;
@@ -244,12 +249,12 @@ static void merging_blank_sky(void) {
     expect(merged, "blank sky merged at any T");
     expect(kept, "blank sky kept below M");
     expect(added, "sixteen blank cells, cut anywhere");
-    expect(answers(mom_chi2_count_merger(0, 0, NAN, 0, 0, 0, 0, &chi2),
+    expect(answers(mom_chi2_count_merger(0, 0, 0, NAN, unlisted, 0, 0, 0, 0, 0, &chi2),
                    MOM_CHI2_THRESHOLD_IS_NAN, 0) && chi2 == 5.5, "blank sky, T a NaN");
-    expect(answers(mom_chi2_count_merger(0, 0, 0, 0, 0, 0, 1, &chi2), MOM_KEPT, 0) && chi2 == 1,
-           "three blanks and a source at T = 0");
-    expect(answers(mom_chi2_count_merger(0, 0, 0, 4, 4, 4, 4, &chi2), MOM_KEPT, 0) && chi2 == 0,
-           "counts of 4 at T = 0");
+    expect(answers(mom_chi2_count_merger(0, 0, 0, 0, unlisted, 0, 0, 0, 0, 1, &chi2),
+                   MOM_KEPT, 0) && chi2 == 1, "three blanks and a source at T = 0");
+    expect(answers(mom_chi2_count_merger(0, 0, 0, 0, unlisted, 0, 4, 4, 4, 4, &chi2),
+                   MOM_KEPT, 0) && chi2 == 0, "counts of 4 at T = 0");
 }
 
 /* The same in a pool, of (0,0) and (1,1), and in a narrow map. */
@@ -259,18 +264,20 @@ static void blank_maps(void) {
     uint64_t zuniqs[4] = {5, 5, 5, 5};
     uint32_t narrow[4] = {5, 5, 5, 5}, counts[4] = {5, 5, 5, 5}, total = 5;
 
-    expect(answers(mom_pool(0, base, 1, none, 1, 1, second, 1, none, 1, 0, 0, zuniqs, 4, counts, 4,
-                            &total),
+    expect(answers(mom_pool(0, base, 1, none, 1, 1, second, 1, none, 1, 0, 0, unlisted, 0, zuniqs,
+                            4, counts, 4, &total),
                    MOM_ACCEPTED, 1) && total == 0 && zuniqs[0] == base[0] && zuniqs[1] == 0 &&
            counts[0] == 0 && counts[3] == 0, "a pool of blank sky at T = 0");
-    expect(answers(mom_pool(0, base, 1, none, 1, 1, second, 1, none, 1, 1, 0, zuniqs, 4, counts, 4,
-                            &total),
+    expect(answers(mom_pool(0, base, 1, none, 1, 1, second, 1, none, 1, 1, 0, unlisted, 0, zuniqs,
+                            4, counts, 4, &total),
                    MOM_ACCEPTED, 4) && total == 0 && zuniqs[1] == second[0],
            "a pool of blank sky, M = 1");
-    expect(answers(mom32_add_counts(1, 0, -1, 0, narrow, 4, counts, 4, hashes, 4, blank, 4, &total),
+    expect(answers(mom32_add_counts(1, 0, -1, unlisted32, 0, 0, narrow, 4, counts, 4, hashes, 4,
+                                    blank, 4, &total),
                    MOM_ACCEPTED, 1) && total == 0 && narrow[0] == UINT32_C(1) << 26 &&
            narrow[1] == 0, "narrow adding of blank sky at T = -1");
-    expect(answers(mom32_add_counts(1, 1, -1, 0, narrow, 4, counts, 4, hashes, 4, blank, 4, &total),
+    expect(answers(mom32_add_counts(1, 1, -1, unlisted32, 0, 0, narrow, 4, counts, 4, hashes, 4,
+                                    blank, 4, &total),
                    MOM_ACCEPTED, 4) && narrow[3] == UINT32_C(7) << 24,
            "narrow adding of blank sky, M = 1");
 }
@@ -281,38 +288,221 @@ static void multiplying(void) {
     uint64_t zuniqs[2] = {5, 5};
     double densities[2] = {5.5, 5.5};
 
-    expect(answers(mom_product(0, base, 1, two, 1, 30, third, 1, three, 1, 30, NAN, -1, zuniqs, 2,
-                               densities, 2),
+    expect(answers(mom_product(0, base, 1, two, 1, 30, third, 1, three, 1, 30, NAN, -1, unlisted, 0,
+                               zuniqs, 2, densities, 2),
                    MOM_DEPTH_OUT_OF_RANGE, 0), "a product at depth 30");
-    expect(answers(mom_product(0, base, 1, two, 1, 1, third, 1, three, 1, 30, NAN, -1, zuniqs, 2,
-                               densities, 2),
+    expect(answers(mom_product(0, base, 1, two, 1, 1, third, 1, three, 1, 30, NAN, -1, unlisted, 0,
+                               zuniqs, 2, densities, 2),
                    MOM_DEPTH_THRESHOLD_OUT_OF_RANGE, 0), "a product, M = 30");
-    expect(answers(mom_product(0, base, 1, two, 1, 1, third, 1, three, 1, 0, NAN, 1, zuniqs, 2,
-                               densities, 2),
+    expect(answers(mom_product(0, base, 1, two, 1, 1, third, 1, three, 1, 0, NAN, 1, unlisted, 0,
+                               zuniqs, 2, densities, 2),
                    MOM_CHI2_THRESHOLD_IS_NAN, 0), "a product, T a NaN");
-    expect(answers(mom_product(0, base, 1, two, 1, 1, third, 1, three, 1, 0, 0, -1, zuniqs, 2,
-                               densities, 1),
+    expect(answers(mom_product(0, base, 1, two, 1, 1, third, 1, three, 1, 0, 0, -1, unlisted, 0,
+                               zuniqs, 2, densities, 1),
                    MOM_INVALID_FACTOR, 0), "a product, k = -1");
-    expect(answers(mom_product(0, base, 1, two, 1, 1, third, 1, three, 1, 0, 0, 1, zuniqs, 2,
-                               densities, 1),
+    expect(answers(mom_product(0, base, 1, two, 1, 1, third, 1, three, 1, 0, 0, 1, unlisted, 0,
+                               zuniqs, 2, densities, 1),
                    MOM_LENGTHS_DIFFER, 0), "a product into two lengths");
-    expect(answers(mom_product(0, base, 1, nan, 1, 0, third, 1, three, 1, 0, 0, 1, zuniqs, 2,
-                               densities, 2),
+    expect(answers(mom_product(0, base, 1, nan, 1, 0, third, 1, three, 1, 0, 0, 1, unlisted, 0,
+                               zuniqs, 2, densities, 2),
                    MOM_INVALID_MAP, 0), "a product of what is no map");
-    expect(answers(mom_product(0, base, 1, nan, 1, 1, third, 1, three, 1, 0, 0, 1, zuniqs, 2,
-                               densities, 2),
+    expect(answers(mom_product(0, base, 1, nan, 1, 1, third, 1, three, 1, 0, 0, 1, unlisted, 0,
+                               zuniqs, 2, densities, 2),
                    MOM_INVALID_MAP_DENSITY, 0), "a product of a NaN");
-    expect(answers(mom_product(0, base, 1, huge, 1, 1, third, 1, three, 1, 0, 0, 1, zuniqs, 0,
-                               densities, 0),
+    expect(answers(mom_product(0, base, 1, huge, 1, 1, third, 1, three, 1, 0, 0, 1, unlisted, 0,
+                               zuniqs, 0, densities, 0),
                    MOM_PRODUCT_NOT_FINITE, 0), "a product that is infinite");
-    expect(answers(mom_product(0, base, 1, two, 1, 1, third, 1, three, 1, 0, 0, 1, zuniqs, 0,
-                               densities, 0),
+    expect(answers(mom_product(0, base, 1, two, 1, 1, third, 1, three, 1, 0, 0, 1, unlisted, 0,
+                               zuniqs, 0, densities, 0),
                    MOM_NO_SPACE, 0) && zuniqs[0] == 5 && densities[0] == 5.5,
            "a product into no place");
-    expect(answers(mom_product(0, base, 1, two, 1, 1, third, 1, three, 1, 0, 0, 1, zuniqs, 2,
-                               densities, 2),
+    expect(answers(mom_product(0, base, 1, two, 1, 1, third, 1, three, 1, 0, 0, 1, unlisted, 0,
+                               zuniqs, 2, densities, 2),
                    MOM_ACCEPTED, 1) && zuniqs[0] == third[0] && densities[0] == 6 &&
            zuniqs[1] == 0 && densities[1] == 0, "a product of 6");
+}
+
+/* Protected parents: (1,0), (0,0), in which it lies, and (1,3). */
+static const uint64_t parents[3] = {UINT64_C(1) << 56, UINT64_C(1) << 58, UINT64_C(7) << 56};
+
+/* Whether 1, 2, 4, 4 are merged at T = 3.5, where the chi-square is left alone. */
+static int merges_under(uint8_t depth, uint64_t hash, size_t pl) {
+    double chi2 = 5.5;
+    return answers(mom_chi2_count_merger(depth, hash, 0, 3.5, parents, pl, 1, 2, 4, 4, &chi2),
+                   MOM_ACCEPTED, 11) && chi2 == 5.5;
+}
+
+/* Whether they are kept, with their chi-square. */
+static int keeps_under(uint8_t depth, uint64_t hash, size_t pl) {
+    double chi2 = 5.5;
+    return answers(mom_chi2_count_merger(depth, hash, 0, 3.5, parents, pl, 1, 2, 4, 4, &chi2),
+                   MOM_KEPT, 0) && chi2 == 3;
+}
+
+/* Whether both mergers refuse by this number, and leave the caller's number alone. */
+static int refuses_parent(uint8_t depth, uint64_t hash, double t, const uint64_t *list, size_t pl,
+                          uint8_t number, uint64_t place) {
+    double chi2 = 5.5;
+    return answers(mom_chi2_count_merger(depth, hash, 0, t, list, pl, UINT32_MAX, 1, 0, 0, &chi2),
+                   number, place) &&
+           answers(mom_chi2_density_merger(depth, hash, 0, t, list, pl, NAN, -1, 0, 0, &chi2),
+                   number, place) && chi2 == 5.5;
+}
+
+static void protected_mergers(void) {
+    const uint64_t last = UINT64_C(12) << 56, none[2] = {parents[0], 2};
+    const uint64_t twice[2] = {parents[1], parents[1]}, falling[2] = {parents[2], parents[1]};
+    double chi2 = 5.5, answer = 5.5;
+
+    expect(keeps_under(1, 0, 3) && keeps_under(0, 0, 3) && keeps_under(1, 3, 3),
+           "each parent of a list");
+    expect(merges_under(1, 3, 2) && merges_under(0, 0, 0), "a parent behind a list");
+    expect(merges_under(1, 1, 3) && merges_under(2, 0, 3) && merges_under(0, 3, 3),
+           "cells in and beside protected ones, and one of the same hash");
+    expect(answers(mom_chi2_count_merger(0, 0, 0, -1, parents, 3, 0, 0, 0, 0, &chi2),
+                   MOM_ACCEPTED, 0) && chi2 == 5.5, "blank sky under a protected parent");
+    expect(answers(mom_chi2_count_merger(0, 0, 1, 3.5, parents, 3, 0, 0, 0, 0, &chi2),
+                   MOM_KEPT, 0) && chi2 == 0, "blank sky under a protected parent below M");
+    expect(answers(mom_chi2_density_merger(0, 0, 0, 3.5, parents, 3, 16, 16, 16, 16, &answer),
+                   MOM_KEPT, 0) && answer == 0, "densities under a protected parent");
+    expect(answers(mom_chi2_density_merger(0, 0, 0, INFINITY, parents, 3, 0, 0, 0, 0, &answer),
+                   MOM_KEPT, 0) && answer < 0, "densities of 0 under a protected parent");
+
+    expect(refuses_parent(0, 12, 3.5, none + 1, 1, MOM_INVALID_PROTECTED, 0) &&
+           refuses_parent(0, 12, 3.5, none, 2, MOM_INVALID_PROTECTED, 1),
+           "a list with what is no zuniq");
+    expect(refuses_parent(0, 12, 3.5, twice, 2, MOM_INVALID_PROTECTED, 1) &&
+           refuses_parent(0, 12, 3.5, falling, 2, MOM_INVALID_PROTECTED, 1),
+           "a list that doesn't rise");
+    expect(refuses_parent(0, 12, NAN, twice, 2, MOM_CHI2_THRESHOLD_IS_NAN, 0),
+           "T a NaN and a list that doesn't rise");
+    expect(refuses_parent(0, 12, 3.5, parents, 3, MOM_HASH_OUT_OF_RANGE, 0) &&
+           refuses_parent(28, last, 3.5, unlisted, 0, MOM_HASH_OUT_OF_RANGE, 0) &&
+           refuses_parent(1, UINT64_MAX, 3.5, unlisted, 0, MOM_HASH_OUT_OF_RANGE, 0),
+           "a parent's hash out of range");
+    expect(refuses_parent(29, last, NAN, twice, 2, MOM_DEPTH_OUT_OF_RANGE, 0),
+           "a parent's depth before all else");
+}
+
+/* Sixteen cells of one count at depth 2 in two calls under one list, cut behind so many; then whether
+ * the entries are these zuniqs, and 0 behind them. */
+static int adds_under(uint32_t count, const uint64_t *list, size_t pl, size_t cut,
+                      const uint64_t *entries, size_t number) {
+    uint64_t hashes[16], zuniqs[16] = {5}, word;
+    uint32_t batch[16], counts[16] = {5}, total = 5;
+    int all;
+
+    for (size_t i = 0; i < 16; i++) {
+        hashes[i] = i;
+        batch[i] = count;
+    }
+    word = mom_add_counts(2, 0, INFINITY, list, pl, 0, zuniqs, 16, counts, 16, hashes, cut, batch,
+                          cut, &total);
+    all = mom_code(word) == MOM_ACCEPTED;
+    word = mom_add_counts(2, 0, INFINITY, list, pl, (size_t)mom_value(word), zuniqs, 16, counts, 16,
+                          hashes + cut, 16 - cut, batch + cut, 16 - cut, &total);
+    all = all && answers(word, MOM_ACCEPTED, number) && total == 16 * count;
+    for (size_t i = 0; i < 16; i++) {
+        all = all && zuniqs[i] == (i < number ? entries[i] : 0);
+    }
+    return all;
+}
+
+static void protected_adding(void) {
+    const uint64_t cell = UINT64_C(1) << 54, base[1] = {UINT64_C(1) << 58}, child[1] = {11 * cell};
+    const uint64_t apart[10] = {cell,      3 * cell,  5 * cell,  7 * cell,  12 * cell,
+                                20 * cell, 25 * cell, 27 * cell, 29 * cell, 31 * cell};
+    const uint64_t four[4] = {4 * cell, 12 * cell, 20 * cell, 28 * cell};
+    int added = 1, blank = 1;
+
+    for (size_t cut = 0; cut <= 16; cut++) {
+        added = added && adds_under(1, parents, 3, cut, apart, 10) &&
+                adds_under(1, base, 1, cut, four, 4) && adds_under(1, child, 1, cut, base, 1) &&
+                adds_under(1, unlisted, 0, cut, base, 1);
+        blank = blank && adds_under(0, parents, 3, cut, base, 1);
+    }
+    expect(added, "sixteen cells under protected parents, cut anywhere");
+    expect(blank, "sixteen blank cells under protected parents, cut anywhere");
+}
+
+/* The other calls that merge: (0,0) is protected, and its four children stay. */
+static void protected_maps(void) {
+    const uint64_t first = UINT64_C(1) << 56, base[1] = {UINT64_C(1) << 58}, one[1] = {3 * first};
+    const uint64_t quad[4] = {first, 3 * first, 5 * first, 7 * first}, hashes[4] = {0, 1, 2, 3};
+    const uint32_t narrow_base[1] = {UINT32_C(1) << 26}, cells[4] = {0, 1, 2, 3};
+    const uint32_t ten[1] = {10}, three[1] = {3}, ones[4] = {1, 1, 1, 1};
+    const double unit[1] = {1}, sixteens[4] = {16, 16, 16, 16}, blank[4] = {0, 0, 0, 0};
+    uint64_t zuniqs[4] = {5, 5, 5, 5};
+    uint32_t narrow[4] = {5, 5, 5, 5}, counts[4] = {5, 5, 5, 5}, total = 5;
+    double densities[4] = {5.5, 5.5, 5.5, 5.5};
+
+    expect(answers(mom_pool(0, base, 1, ten, 1, 1, one, 1, three, 1, 0, 3.5, base, 1, zuniqs, 4,
+                            counts, 4, &total),
+                   MOM_ACCEPTED, 4) && total == 13 && memcmp(zuniqs, quad, sizeof quad) == 0 &&
+           counts[0] == 3 && counts[1] == 6, "a pool under a protected parent");
+    expect(answers(mom_product(0, base, 1, unit, 1, 1, quad, 4, sixteens, 4, 0, 3.5, 1, base, 1,
+                               zuniqs, 4, densities, 4),
+                   MOM_ACCEPTED, 4) && memcmp(zuniqs, quad, sizeof quad) == 0 &&
+           densities[3] == 16, "a product under a protected parent");
+    expect(answers(mom_add_densities(1, 0, 3.5, base, 1, 0, zuniqs, 4, densities, 4, hashes, 4,
+                                     sixteens, 4),
+                   MOM_ACCEPTED, 4) && memcmp(zuniqs, quad, sizeof quad) == 0,
+           "adding densities under a protected parent");
+    expect(answers(mom_add_densities(1, 0, INFINITY, base, 1, 0, zuniqs, 4, densities, 4, hashes, 4,
+                                     blank, 4),
+                   MOM_ACCEPTED, 4) && zuniqs[3] == quad[3] && densities[3] == 0,
+           "adding densities of 0 under a protected parent");
+    expect(answers(mom32_add_counts(1, 0, 3.5, narrow_base, 1, 0, narrow, 4, counts, 4, cells, 4,
+                                    ones, 4, &total),
+                   MOM_ACCEPTED, 4) && total == 4 && narrow[0] == UINT32_C(1) << 24 &&
+           narrow[3] == UINT32_C(7) << 24, "narrow adding under a protected parent");
+    expect(answers(mom32_add_counts(1, 0, 3.5, narrow_base, 1, 0, narrow, 4, counts, 4, cells, 4,
+                                    unlisted32, 0, &total),
+                   MOM_LENGTHS_DIFFER, 0) && total == 4, "a list and a batch of two lengths");
+}
+
+/* A list is looked at after T, and refused before lengths are looked at, by its index; and nothing is
+ * written. */
+static void refused_lists(void) {
+    const uint64_t falling[3] = {1, 5, 3}, hashes[1] = {48};
+    const uint32_t narrow_falling[3] = {1, 5, 3}, cells[1] = {48}, ones[1] = {1};
+    /* 2^28 is a zuniq, but no narrow one. */
+    const uint32_t wide[2] = {1, UINT32_C(1) << 28};
+    const double unit[1] = {1};
+    uint64_t zuniqs[2] = {5, 5};
+    uint32_t narrow[2] = {5, 5}, counts[2] = {5, 5}, total = 5;
+    double densities[2] = {5.5, 5.5};
+
+    expect(answers(mom_add_counts(1, 0, 3.5, falling, 3, 3, zuniqs, 2, counts, 1, hashes, 1, ones, 1,
+                                  &total),
+                   MOM_INVALID_PROTECTED, 2) &&
+           answers(mom_add_densities(1, 0, 3.5, falling, 3, 3, zuniqs, 2, densities, 1, hashes, 1,
+                                     unit, 1),
+                   MOM_INVALID_PROTECTED, 2), "adding under a list that doesn't rise");
+    expect(answers(mom32_add_counts(1, 0, 3.5, narrow_falling, 3, 3, narrow, 2, counts, 1, cells, 1,
+                                    ones, 1, &total),
+                   MOM_INVALID_PROTECTED, 2) &&
+           answers(mom32_add_counts(1, 0, 3.5, wide, 2, 3, narrow, 2, counts, 1, cells, 1, ones, 1,
+                                    &total),
+                   MOM_INVALID_PROTECTED, 1), "narrow adding under a list that is none");
+    expect(answers(mom_add_counts(1, 0, NAN, falling, 3, 3, zuniqs, 2, counts, 1, hashes, 1, ones, 1,
+                                  &total),
+                   MOM_CHI2_THRESHOLD_IS_NAN, 0) &&
+           answers(mom32_add_counts(1, 0, NAN, wide, 2, 3, narrow, 2, counts, 1, cells, 1, ones, 1,
+                                    &total),
+                   MOM_CHI2_THRESHOLD_IS_NAN, 0), "adding under such lists, T a NaN");
+    expect(answers(mom_pool(1, falling, 3, ones, 1, 1, falling, 3, ones, 1, 0, 3.5, falling, 3,
+                            zuniqs, 2, counts, 1, &total),
+                   MOM_INVALID_PROTECTED, 2), "a pool under a list that doesn't rise");
+    expect(answers(mom_product(1, falling, 3, unit, 1, 1, falling, 3, unit, 1, 0, 3.5, 1, falling, 3,
+                               zuniqs, 2, densities, 1),
+                   MOM_INVALID_PROTECTED, 2) &&
+           answers(mom_product(1, falling, 3, unit, 1, 1, falling, 3, unit, 1, 0, 3.5, -1, falling,
+                               3, zuniqs, 2, densities, 1),
+                   MOM_INVALID_FACTOR, 0), "a product under a list that doesn't rise");
+    expect(zuniqs[0] == 5 && zuniqs[1] == 5 && narrow[0] == 5 && narrow[1] == 5 && counts[0] == 5 &&
+           counts[1] == 5 && densities[0] == 5.5 && densities[1] == 5.5 && total == 5,
+           "what refused lists leave");
 }
 
 /* The twelve base cells have no parent: nothing is merged at an infinite T, in one call or two. */
@@ -327,22 +517,22 @@ static void base_cells(void) {
         batch[i] = 1;
         ones[i] = 1;
     }
-    expect(answers(mom_add_counts(0, 0, INFINITY, 0, zuniqs, 13, counts, 13, hashes, 13, batch, 13,
-                                  &total),
+    expect(answers(mom_add_counts(0, 0, INFINITY, unlisted, 0, 0, zuniqs, 13, counts, 13, hashes,
+                                  13, batch, 13, &total),
                    MOM_HASH_OUT_OF_RANGE, 12) && total == 5 && zuniqs[0] == 5 && counts[0] == 5,
            "adding a thirteenth base cell");
-    expect(answers(mom_add_counts(0, 0, INFINITY, 0, zuniqs, 13, counts, 13, hashes, 3, batch, 3,
-                                  &total),
+    expect(answers(mom_add_counts(0, 0, INFINITY, unlisted, 0, 0, zuniqs, 13, counts, 13, hashes, 3,
+                                  batch, 3, &total),
                    MOM_ACCEPTED, 3) && total == 3, "adding three base cells");
-    expect(answers(mom_add_counts(0, 0, INFINITY, 3, zuniqs, 13, counts, 13, hashes + 3, 9, batch,
-                                  9, &total),
+    expect(answers(mom_add_counts(0, 0, INFINITY, unlisted, 0, 3, zuniqs, 13, counts, 13,
+                                  hashes + 3, 9, batch, 9, &total),
                    MOM_ACCEPTED, 12) && total == 12, "adding nine more");
     for (int i = 0; i < 12; i++) {
         kept = kept && zuniqs[i] == (2 * hashes[i] + 1) << 58 && counts[i] == 1;
     }
     expect(kept && zuniqs[12] == 0 && counts[12] == 0, "twelve base cells that stay");
-    expect(answers(mom_add_densities(0, 0, INFINITY, 0, zuniqs, 13, densities, 13, hashes, 12, ones,
-                                     12),
+    expect(answers(mom_add_densities(0, 0, INFINITY, unlisted, 0, 0, zuniqs, 13, densities, 13,
+                                     hashes, 12, ones, 12),
                    MOM_ACCEPTED, 12) && zuniqs[3] == UINT64_C(7) << 58 && densities[11] == 1 &&
            zuniqs[12] == 0 && densities[12] == 0, "adding the densities of twelve base cells");
 }
@@ -490,8 +680,8 @@ static int not_added(uint8_t depth, uint8_t m, double t, size_t held, size_t cl,
                      uint8_t number) {
     const uint32_t hashes[2] = {hash, 2}, batch[2] = {1, 2};
     uint32_t zuniqs[2] = {5, 5}, counts[2] = {5, 5}, total = 5;
-    uint64_t word = mom32_add_counts(depth, m, t, held, zuniqs, 2, counts, cl, hashes, 2, batch, 2,
-                                     &total);
+    uint64_t word = mom32_add_counts(depth, m, t, unlisted32, 0, held, zuniqs, 2, counts, cl,
+                                     hashes, 2, batch, 2, &total);
     return answers(word, number, 0) && total == 5 && zuniqs[0] == 5 && zuniqs[1] == 5 &&
            counts[0] == 5 && counts[1] == 5;
 }
@@ -512,25 +702,27 @@ static void narrow_adding(void) {
     expect(not_added(1, 29, 0, 2, 2, 48, MOM_INVALID_MAP), "narrow adding to what is no map");
     expect(not_added(1, 29, 0, 0, 2, 48, MOM_HASH_OUT_OF_RANGE), "narrow adding of hash 48");
 
-    expect(answers(mom32_add_counts(1, 0, 3.5, 0, zuniqs, 3, counts, 3, hashes, 4, batch, 4, &total),
+    expect(answers(mom32_add_counts(1, 0, 3.5, unlisted32, 0, 0, zuniqs, 3, counts, 3, hashes, 4,
+                                    batch, 4, &total),
                    MOM_NO_SPACE, 0) &&
-           answers(mom32_add_counts(1, 0, 3.5, 0, zuniqs, 5, counts, 5, hashes, 2, largest, 2,
-                                    &total),
+           answers(mom32_add_counts(1, 0, 3.5, unlisted32, 0, 0, zuniqs, 5, counts, 5, hashes, 2,
+                                    largest, 2, &total),
                    MOM_COUNT_OVERFLOW, 1) && total == 5 && zuniqs[0] == 5 && counts[0] == 5,
            "narrow adding to too few places, and of 2^32");
-    expect(answers(mom32_add_counts(1, 0, 3.5, 0, zuniqs, 5, counts, 5, hashes, 3, batch, 3, &total),
+    expect(answers(mom32_add_counts(1, 0, 3.5, unlisted32, 0, 0, zuniqs, 5, counts, 5, hashes, 3,
+                                    batch, 3, &total),
                    MOM_ACCEPTED, 3) && total == 7 && zuniqs[2] == 5 * first && counts[2] == 4 &&
            zuniqs[3] == 0 && counts[4] == 0, "narrow adding of three");
-    expect(answers(mom32_add_counts(1, 0, 3.5, 3, zuniqs, 5, counts, 5, hashes + 2, 2, batch + 2, 2,
-                                    &total),
+    expect(answers(mom32_add_counts(1, 0, 3.5, unlisted32, 0, 3, zuniqs, 5, counts, 5, hashes + 2,
+                                    2, batch + 2, 2, &total),
                    MOM_CELL_NOT_ABOVE, 0) && total == 7, "narrow adding of one again");
-    expect(answers(mom32_add_counts(1, 13, INFINITY, 3, zuniqs, 5, counts, 5, hashes + 3, 1,
-                                    batch + 3, 1, &total),
+    expect(answers(mom32_add_counts(1, 13, INFINITY, unlisted32, 0, 3, zuniqs, 5, counts, 5,
+                                    hashes + 3, 1, batch + 3, 1, &total),
                    MOM_ACCEPTED, 4) && total == 11 && zuniqs[3] == 7 * first && zuniqs[4] == 0,
            "narrow adding of the fourth, M = 13");
     zuniqs[3] = 0;
-    expect(answers(mom32_add_counts(1, 0, 3.5, 3, zuniqs, 4, counts, 4, hashes + 3, 1, batch + 3, 1,
-                                    &total),
+    expect(answers(mom32_add_counts(1, 0, 3.5, unlisted32, 0, 3, zuniqs, 4, counts, 4, hashes + 3,
+                                    1, batch + 3, 1, &total),
                    MOM_ACCEPTED, 1) && total == 11 && zuniqs[0] == base && counts[0] == 11 &&
            zuniqs[1] == 0 && counts[3] == 0, "narrow adding of the fourth");
 
@@ -538,8 +730,8 @@ static void narrow_adding(void) {
         cells[i] = i;
         ones[i] = 1;
     }
-    expect(answers(mom32_add_counts(0, 0, INFINITY, 0, base_zuniqs, 12, base_counts, 12, cells, 12,
-                                    ones, 12, &total),
+    expect(answers(mom32_add_counts(0, 0, INFINITY, unlisted32, 0, 0, base_zuniqs, 12, base_counts,
+                                    12, cells, 12, ones, 12, &total),
                    MOM_ACCEPTED, 12) && total == 12, "narrow adding of twelve base cells");
     for (uint32_t i = 0; i < 12; i++) {
         kept = kept && base_zuniqs[i] == (2 * i + 1) << 26 && base_counts[i] == 1;
@@ -876,35 +1068,36 @@ int main(void) {
     expect(answers(mom_are_overlapping(0, 0), MOM_NOT_A_ZUNIQ, 0), "are_overlapping(0, 0)");
     expect(answers(mom_are_overlapping(1, 0), MOM_NOT_A_ZUNIQ, 1), "are_overlapping(1, 0)");
 
-    expect(answers(mom_chi2_count_merger(29, 30, NAN, UINT32_MAX, 1, 0, 0, &chi2),
+    expect(answers(mom_chi2_count_merger(29, 0, 30, NAN, unlisted, 0, UINT32_MAX, 1, 0, 0, &chi2),
                    MOM_DEPTH_OUT_OF_RANGE, 0) && chi2 == 5.5, "count merger at depth 29");
-    expect(answers(mom_chi2_count_merger(28, 30, NAN, UINT32_MAX, 1, 0, 0, &chi2),
+    expect(answers(mom_chi2_count_merger(28, 0, 30, NAN, unlisted, 0, UINT32_MAX, 1, 0, 0, &chi2),
                    MOM_DEPTH_THRESHOLD_OUT_OF_RANGE, 0) && chi2 == 5.5, "count merger, M = 30");
-    expect(answers(mom_chi2_count_merger(28, 29, NAN, UINT32_MAX, 1, 0, 0, &chi2),
+    expect(answers(mom_chi2_count_merger(28, 0, 29, NAN, unlisted, 0, UINT32_MAX, 1, 0, 0, &chi2),
                    MOM_CHI2_THRESHOLD_IS_NAN, 0) && chi2 == 5.5, "count merger, T a NaN");
-    expect(answers(mom_chi2_count_merger(28, 29, 3.5, UINT32_MAX, 1, 0, 0, &chi2),
+    expect(answers(mom_chi2_count_merger(28, 0, 29, 3.5, unlisted, 0, UINT32_MAX, 1, 0, 0, &chi2),
                    MOM_COUNT_OVERFLOW, 0) && chi2 == 5.5, "count merger, a sum of 2^32");
-    expect(answers(mom_chi2_count_merger(0, 0, 3.5, 1, 2, 4, 4, &chi2), MOM_ACCEPTED, 11) &&
-           chi2 == 5.5, "counts 1, 2, 4, 4 at T = 3.5");
-    expect(answers(mom_chi2_count_merger(0, 0, 3, 1, 2, 4, 4, &chi2), MOM_KEPT, 0) && chi2 == 3,
-           "counts 1, 2, 4, 4 at T = 3");
-    expect(answers(mom_chi2_count_merger(0, 1, 3.5, 0, 0, 0, 5, &chi2), MOM_KEPT, 0) && chi2 == 5,
-           "counts 0, 0, 0, 5 at M = 1");
+    expect(answers(mom_chi2_count_merger(0, 0, 0, 3.5, unlisted, 0, 1, 2, 4, 4, &chi2),
+                   MOM_ACCEPTED, 11) && chi2 == 5.5, "counts 1, 2, 4, 4 at T = 3.5");
+    expect(answers(mom_chi2_count_merger(0, 0, 0, 3, unlisted, 0, 1, 2, 4, 4, &chi2),
+                   MOM_KEPT, 0) && chi2 == 3, "counts 1, 2, 4, 4 at T = 3");
+    expect(answers(mom_chi2_count_merger(0, 0, 1, 3.5, unlisted, 0, 0, 0, 0, 5, &chi2),
+                   MOM_KEPT, 0) && chi2 == 5, "counts 0, 0, 0, 5 at M = 1");
 
-    expect(answers(mom_chi2_density_merger(29, 30, NAN, -1, -1, -1, -1, &answer),
+    expect(answers(mom_chi2_density_merger(29, 0, 30, NAN, unlisted, 0, -1, -1, -1, -1, &answer),
                    MOM_DEPTH_OUT_OF_RANGE, 0) && answer == 5.5, "density merger at depth 29");
-    expect(answers(mom_chi2_density_merger(28, 30, NAN, -1, -1, -1, -1, &answer),
+    expect(answers(mom_chi2_density_merger(28, 0, 30, NAN, unlisted, 0, -1, -1, -1, -1, &answer),
                    MOM_DEPTH_THRESHOLD_OUT_OF_RANGE, 0) && answer == 5.5, "density merger, M = 30");
-    expect(answers(mom_chi2_density_merger(28, 29, NAN, -1, -1, -1, -1, &answer),
+    expect(answers(mom_chi2_density_merger(28, 0, 29, NAN, unlisted, 0, -1, -1, -1, -1, &answer),
                    MOM_CHI2_THRESHOLD_IS_NAN, 0) && answer == 5.5, "density merger, T a NaN");
-    expect(answers(mom_chi2_density_merger(28, 29, 3.5, 0, -0.0, NAN, INFINITY, &answer),
+    expect(answers(mom_chi2_density_merger(28, 0, 29, 3.5, unlisted, 0, 0, -0.0, NAN, INFINITY,
+                                           &answer),
                    MOM_INVALID_DENSITY, 2) && answer == 5.5, "density merger, m2 a NaN");
-    expect(answers(mom_chi2_density_merger(0, 0, 0, 16, 16, 16, 16, &answer), MOM_KEPT, 0) &&
-           answer == 0, "densities of 16 at T = 0");
-    expect(answers(mom_chi2_density_merger(0, 0, 3.5, 16, 16, 16, 16, &answer), MOM_ACCEPTED, 0) &&
-           answer == 16, "densities of 16 at T = 3.5");
-    expect(answers(mom_chi2_density_merger(0, 0, 0, 0, -0.0, 0, 2, &answer), MOM_ACCEPTED, 0) &&
-           answer == 0.5, "densities 0, -0, 0, 2 at T = 0");
+    expect(answers(mom_chi2_density_merger(0, 0, 0, 0, unlisted, 0, 16, 16, 16, 16, &answer),
+                   MOM_KEPT, 0) && answer == 0, "densities of 16 at T = 0");
+    expect(answers(mom_chi2_density_merger(0, 0, 0, 3.5, unlisted, 0, 16, 16, 16, 16, &answer),
+                   MOM_ACCEPTED, 0) && answer == 16, "densities of 16 at T = 3.5");
+    expect(answers(mom_chi2_density_merger(0, 0, 0, 0, unlisted, 0, 0, -0.0, 0, 2, &answer),
+                   MOM_ACCEPTED, 0) && answer == 0.5, "densities 0, -0, 0, 2 at T = 0");
 
     expect(answers(mom_check_is_mom_zuniqs(30, map, 4), MOM_DEPTH_OUT_OF_RANGE, 0),
            "a check at depth 30");
@@ -935,51 +1128,63 @@ int main(void) {
     expect(answers(mom_get_overlapped_cells_zuniqs(map, 3, 5 * base, &number), MOM_ACCEPTED, 0) &&
            number == 0, "the entries in (0, 2)");
 
-    expect(answers(mom_add_counts(30, 0, 3.5, 0, zuniqs, 5, counts, 5, hashes, 4, batch, 4, &total),
+    expect(answers(mom_add_counts(30, 0, 3.5, unlisted, 0, 0, zuniqs, 5, counts, 5, hashes, 4,
+                                  batch, 4, &total),
                    MOM_DEPTH_OUT_OF_RANGE, 0) && total == 5, "adding at depth 30");
-    expect(answers(mom_add_counts(1, 0, 3.5, 0, zuniqs, 5, counts, 4, hashes, 4, batch, 4, &total),
+    expect(answers(mom_add_counts(1, 0, 3.5, unlisted, 0, 0, zuniqs, 5, counts, 4, hashes, 4, batch,
+                                  4, &total),
                    MOM_LENGTHS_DIFFER, 0) && total == 5, "adding to two lengths");
-    expect(answers(mom_add_counts(1, 0, 3.5, 0, zuniqs, 3, counts, 3, hashes, 4, batch, 4, &total),
+    expect(answers(mom_add_counts(1, 0, 3.5, unlisted, 0, 0, zuniqs, 3, counts, 3, hashes, 4, batch,
+                                  4, &total),
                    MOM_NO_SPACE, 0) && total == 5 && zuniqs[0] == 5 && counts[0] == 5,
            "adding to too few places");
-    expect(answers(mom_add_counts(1, 0, 3.5, 0, zuniqs, 5, counts, 5, hashes, 3, batch, 3, &total),
+    expect(answers(mom_add_counts(1, 0, 3.5, unlisted, 0, 0, zuniqs, 5, counts, 5, hashes, 3, batch,
+                                  3, &total),
                    MOM_ACCEPTED, 3) && total == 7 && zuniqs[2] == 5 * first && counts[2] == 4 &&
            zuniqs[3] == 0 && counts[4] == 0, "adding three");
-    expect(answers(mom_add_counts(1, 0, 3.5, 4, zuniqs, 5, counts, 5, hashes, 0, batch, 0, &total),
+    expect(answers(mom_add_counts(1, 0, 3.5, unlisted, 0, 4, zuniqs, 5, counts, 5, hashes, 0, batch,
+                                  0, &total),
                    MOM_INVALID_MAP, 3) && total == 7, "adding to more than are held");
-    expect(answers(mom_add_counts(1, 0, 3.5, 3, zuniqs, 5, counts, 5, hashes + 2, 2, batch + 2, 2,
-                                  &total),
+    expect(answers(mom_add_counts(1, 0, 3.5, unlisted, 0, 3, zuniqs, 5, counts, 5, hashes + 2, 2,
+                                  batch + 2, 2, &total),
                    MOM_CELL_NOT_ABOVE, 0) && total == 7, "adding one again");
-    expect(answers(mom_add_counts(1, 0, 3.5, 3, zuniqs, 4, counts, 4, hashes + 3, 1, batch + 3, 1,
-                                  &total),
+    expect(answers(mom_add_counts(1, 0, 3.5, unlisted, 0, 3, zuniqs, 4, counts, 4, hashes + 3, 1,
+                                  batch + 3, 1, &total),
                    MOM_ACCEPTED, 1) && total == 11 && zuniqs[0] == base && counts[0] == 11 &&
            zuniqs[1] == 0 && counts[3] == 0, "adding the fourth");
 
     /* Densities, to the entry that the counts left and then to none. */
-    expect(answers(mom_add_densities(1, 30, 3.5, 0, zuniqs, 5, densities, 5, hashes, 4, sixteens, 4),
+    expect(answers(mom_add_densities(1, 30, 3.5, unlisted, 0, 0, zuniqs, 5, densities, 5, hashes, 4,
+                                     sixteens, 4),
                    MOM_DEPTH_THRESHOLD_OUT_OF_RANGE, 0), "adding densities, M = 30");
-    expect(answers(mom_add_densities(1, 0, NAN, 0, zuniqs, 5, densities, 5, hashes, 4, sixteens, 4),
+    expect(answers(mom_add_densities(1, 0, NAN, unlisted, 0, 0, zuniqs, 5, densities, 5, hashes, 4,
+                                     sixteens, 4),
                    MOM_CHI2_THRESHOLD_IS_NAN, 0), "adding densities, T a NaN");
-    expect(answers(mom_add_densities(1, 0, 3.5, 0, zuniqs, 5, densities, 5, hashes, 4, sixteens, 3),
+    expect(answers(mom_add_densities(1, 0, 3.5, unlisted, 0, 0, zuniqs, 5, densities, 5, hashes, 4,
+                                     sixteens, 3),
                    MOM_LENGTHS_DIFFER, 0), "adding a batch of two lengths");
-    expect(answers(mom_add_densities(1, 0, 3.5, 1, zuniqs, 5, densities, 5, hashes, 4, sixteens, 4),
+    expect(answers(mom_add_densities(1, 0, 3.5, unlisted, 0, 1, zuniqs, 5, densities, 5, hashes, 4,
+                                     sixteens, 4),
                    MOM_CELL_NOT_ABOVE, 0), "adding densities of cells that are covered");
-    expect(answers(mom_add_densities(1, 0, 3.5, 0, zuniqs, 5, densities, 5, hashes, 1, nans, 1),
+    expect(answers(mom_add_densities(1, 0, 3.5, unlisted, 0, 0, zuniqs, 5, densities, 5, hashes, 1,
+                                     nans, 1),
                    MOM_INVALID_DENSITY, 0), "adding a NaN");
-    expect(answers(mom_add_densities(1, 0, 3.5, 0, zuniqs, 3, densities, 3, hashes, 4, sixteens, 4),
+    expect(answers(mom_add_densities(1, 0, 3.5, unlisted, 0, 0, zuniqs, 3, densities, 3, hashes, 4,
+                                     sixteens, 4),
                    MOM_NO_SPACE, 0) && zuniqs[0] == base && densities[0] == 5.5,
            "adding densities to too few places");
-    expect(answers(mom_add_densities(1, 0, 3.5, 0, zuniqs, 5, densities, 5, hashes, 3, sixteens, 3),
+    expect(answers(mom_add_densities(1, 0, 3.5, unlisted, 0, 0, zuniqs, 5, densities, 5, hashes, 3,
+                                     sixteens, 3),
                    MOM_ACCEPTED, 3) && zuniqs[2] == 5 * first && densities[2] == 16 &&
            zuniqs[3] == 0 && densities[4] == 0, "adding three densities");
     densities[1] = -1;
-    expect(answers(mom_add_densities(1, 0, 3.5, 3, zuniqs, 5, densities, 5, hashes + 3, 1, sixteens,
-                                     1),
+    expect(answers(mom_add_densities(1, 0, 3.5, unlisted, 0, 3, zuniqs, 5, densities, 5, hashes + 3,
+                                     1, sixteens, 1),
                    MOM_INVALID_MAP_DENSITY, 1) && densities[1] == -1 && zuniqs[3] == 0,
            "adding to a density below 0");
     densities[1] = 16;
-    expect(answers(mom_add_densities(1, 0, 3.5, 3, zuniqs, 4, densities, 4, hashes + 3, 1, sixteens,
-                                     1),
+    expect(answers(mom_add_densities(1, 0, 3.5, unlisted, 0, 3, zuniqs, 4, densities, 4, hashes + 3,
+                                     1, sixteens, 1),
                    MOM_ACCEPTED, 1) && zuniqs[0] == base && densities[0] == 16 && zuniqs[1] == 0 &&
            densities[3] == 0, "adding the fourth density");
 
@@ -990,6 +1195,10 @@ int main(void) {
     merging_blank_sky();
     blank_maps();
     multiplying();
+    protected_mergers();
+    protected_adding();
+    protected_maps();
+    refused_lists();
     narrow_cells();
     narrow_rows();
     narrow_maps_of_rows();

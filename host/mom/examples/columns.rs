@@ -134,7 +134,7 @@ fn map(depth: u8) -> Result<(Vec<u64>, Vec<u32>), Refusal> {
         zuniqs.resize(held + batch.len(), 0);
         counts.resize(held + batch.len(), 0);
         let (z, c) = (&mut zuniqs, &mut counts);
-        let added = mom::add_counts(depth, 0, CHI2_THRESHOLD, held, z, c, &hashes, &batch)?;
+        let added = mom::add_counts(depth, 0, CHI2_THRESHOLD, &[], held, z, c, &hashes, &batch)?;
         zuniqs.truncate(added.entries);
         counts.truncate(added.entries);
     }

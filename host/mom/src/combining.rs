@@ -27,6 +27,8 @@ unsafe extern "C" {
         rcl: usize,
         depth_threshold: u8,
         chi2_threshold: f64,
+        protected_parents: *const u64,
+        pl: usize,
         zuniqs: *mut u64,
         zl: usize,
         counts: *mut u32,
@@ -47,6 +49,8 @@ unsafe extern "C" {
         depth_threshold: u8,
         chi2_threshold: f64,
         k: f64,
+        protected_parents: *const u64,
+        pl: usize,
         zuniqs: *mut u64,
         zl: usize,
         densities: *mut f64,
@@ -55,11 +59,13 @@ unsafe extern "C" {
 }
 
 /// The word of the pool's call.
+#[allow(clippy::too_many_arguments)]
 fn pool_word(
     left: Map<u32>,
     right: Map<u32>,
     depth_threshold: u8,
     chi2_threshold: f64,
+    protected: &[u64],
     zuniqs: &mut [u64],
     counts: &mut [u32],
     total: &mut u32,
@@ -80,6 +86,8 @@ fn pool_word(
             right.values.len(),
             depth_threshold,
             chi2_threshold,
+            protected.as_ptr(),
+            protected.len(),
             zuniqs.as_mut_ptr(),
             zuniqs.len(),
             counts.as_mut_ptr(),
@@ -93,12 +101,14 @@ fn pool_word(
 /// keeps its count, a cell that both have gets the sum. Where an entry of one map has entries of the
 /// other in it, it is split: each of the four children gets a quarter of its count, and the first
 /// ones one more each, as many as are left over; so on, level by level. What comes out is merged
-/// under the two thresholds, as [`crate::add_counts`] merges: blank sky at any chi-square threshold.
-/// Every place after the entries is 0. A refused call leaves both buffers as they were.
+/// under the two thresholds, as [`crate::add_counts`] merges: blank sky at any chi-square threshold, and
+/// other children of a parent in `protected` never. Every place after the entries is 0. A refused call
+/// leaves both buffers as they were.
 ///
 /// Refused by 1: a map's depth is over 29; then by 2: the depth threshold is over 29; then by 3: the
-/// chi-square threshold is a NaN; then by 4: the zuniqs and counts of a map, or of the output, differ
-/// in length; then by 5: a map is not valid, the place is its first faulty entry, and the left map
+/// chi-square threshold is a NaN; then by 15: a protected parent is not a valid zuniq, or not above the
+/// one before, the place is its index; then by 4: the zuniqs and counts of a map, or of the output,
+/// differ in length; then by 5: a map is not valid, the place is its first faulty entry, and the left map
 /// goes before the right one; then by 10: all counts together are no u32; then by 11: the output has
 /// fewer places than there are cells before merging.
 pub fn pool(
@@ -106,6 +116,7 @@ pub fn pool(
     right: Map<u32>,
     depth_threshold: u8,
     chi2_threshold: f64,
+    protected: &[u64],
     zuniqs: &mut [u64],
     counts: &mut [u32],
 ) -> Result<Added, Refusal> {
@@ -115,6 +126,7 @@ pub fn pool(
         right,
         depth_threshold,
         chi2_threshold,
+        protected,
         zuniqs,
         counts,
         &mut total,
@@ -126,20 +138,22 @@ pub fn pool(
 /// Multiplies two density maps into `zuniqs` and `densities`, which may hold anything. A cell that both
 /// maps have gets (`k` × left) × right, a cell that one map has is dropped. Where an entry of one map
 /// has entries of the other in it, it is split: a child has its parent's density. What comes out is
-/// merged under the two thresholds. Answers the number of entries; every place after them is 0. A
-/// refused call leaves both buffers as they were.
+/// merged under the two thresholds, but for children of a parent in `protected`. Answers the number of
+/// entries; every place after them is 0. A refused call leaves both buffers as they were.
 ///
 /// Refused by 1 and 2 as [`pool`] is; then by 3: the chi-square threshold is a NaN, or `k` is NaN,
-/// infinite or below 0 (−0 is none of these); then by 4 and 5 as [`pool`] is; then by 6: a density is
+/// infinite or below 0 (−0 is none of these); then by 15, 4 and 5 as [`pool`] is; then by 6: a density is
 /// NaN, infinite or below 0, the place is its entry, and the left map goes before the right one; then
 /// by 10: the product of a cell before merging is not finite; then by 11: the output has fewer places
 /// than there are such products.
+#[allow(clippy::too_many_arguments)]
 pub fn product(
     left: Map<f64>,
     right: Map<f64>,
     depth_threshold: u8,
     chi2_threshold: f64,
     k: f64,
+    protected: &[u64],
     zuniqs: &mut [u64],
     densities: &mut [f64],
 ) -> Result<usize, Refusal> {
@@ -159,6 +173,8 @@ pub fn product(
             depth_threshold,
             chi2_threshold,
             k,
+            protected.as_ptr(),
+            protected.len(),
             zuniqs.as_mut_ptr(),
             zuniqs.len(),
             densities.as_mut_ptr(),
@@ -185,21 +201,23 @@ mod tests {
             values: &[],
         };
         let nan = f64::NAN;
-        for (left, right, m, t, number) in [
-            (map(30), map(0), 30, nan, 1),
-            (map(0), empty(30), 30, nan, 1),
-            (map(0), map(0), 30, nan, 2),
-            (map(0), map(0), 29, nan, 3),
-            (map(0), map(0), 29, 1.0, 10),
+        let twice: &[u64] = &[1 << 58, 1 << 58];
+        for (left, right, m, t, protected, number, place) in [
+            (map(30), map(0), 30, nan, twice, 1, 0),
+            (map(0), empty(30), 30, nan, twice, 1, 0),
+            (map(0), map(0), 30, nan, twice, 2, 0),
+            (map(0), map(0), 29, nan, twice, 3, 0),
+            (map(0), map(0), 29, 1.0, twice, 15, 1),
+            (map(0), map(0), 29, 1.0, &twice[1..], 10, 0),
         ] {
             let (mut zuniqs, mut counts, mut total) = ([7, 8], [7, 8], 77);
             let (z, c) = (&mut zuniqs, &mut counts);
-            let word = pool_word(left, right, m, t, z, c, &mut total);
-            assert_eq!(word, number << 56);
+            let word = pool_word(left, right, m, t, protected, z, c, &mut total);
+            assert_eq!(word, number << 56 | place);
             assert_eq!((zuniqs, counts, total), ([7, 8], [7, 8], 77));
         }
-        let mut total = 77;
-        let word = pool_word(map(0), empty(0), 0, 1.0, &mut [], &mut [], &mut total);
+        let (mut total, none) = (77, &[]);
+        let word = pool_word(map(0), empty(0), 0, 1.0, none, &mut [], &mut [], &mut total);
         assert_eq!((word, total), (11 << 56, 77));
     }
 
@@ -211,7 +229,8 @@ mod tests {
             values: &[3],
         };
         let (mut zuniqs, mut counts, mut total) = ([7, 8], [7, 8], 77);
-        let word = pool_word(map, map, 0, 1.0, &mut zuniqs, &mut counts, &mut total);
+        let (z, c) = (&mut zuniqs, &mut counts);
+        let word = pool_word(map, map, 0, 1.0, &[], z, c, &mut total);
         assert_eq!((word, total), (1, 6));
         assert_eq!((zuniqs, counts), ([1 << 58, 0], [6, 0]));
     }

@@ -8,6 +8,12 @@
 //! bytes, which [`columns`] lays out by byte column for a disk. A [`narrow`] map has u32 zuniqs and a
 //! depth of at most 13; [`moving`] goes from one width to the other. [`reach`] gives the part of the sky
 //! that a map covers, and clips a density map to such a part.
+//!
+//! Every call that merges takes a list of protected parents, cells that may never swallow their children:
+//! the four of a listed parent are kept, only blank sky is merged all the same. The list is of valid
+//! zuniqs, each above the one before; its cells may lie inside one another. An empty one changes nothing.
+//! Batches that are added to one map, in however many calls, come under the same list.
+//!
 //! Nothing here panics, whatever the arguments: a call that can't be answered is refused, and a
 //! [`Refusal`] says in words why, and has the number and the place of the scope's table.
 //!
@@ -17,10 +23,16 @@
 //! assert_eq!(mom::from_zuniq(zuniq), Some((1, 3)));
 //! assert_eq!(mom::to_zuniq(1, 48), Err(mom::Refusal::HashOutOfRange(0)));
 //!
-//! let merge = |chi2_threshold| mom::chi2_count_merger(0, 0, chi2_threshold, [1, 2, 4, 4]).unwrap();
-//! assert_eq!(merge(3.5), mom::CountMerge::Merged(11));
-//! assert_eq!(merge(3.0), mom::CountMerge::Kept(3.0));
-//! assert_eq!(mom::chi2_count_merger(0, 0, 0.0, [0; 4]), Ok(mom::CountMerge::Merged(0)));
+//! let merge = |chi2_threshold, protected: &[u64], counts| {
+//!     mom::chi2_count_merger(0, 0, 0, chi2_threshold, protected, counts).unwrap()
+//! };
+//! assert_eq!(merge(3.5, &[], [1, 2, 4, 4]), mom::CountMerge::Merged(11));
+//! assert_eq!(merge(3.0, &[], [1, 2, 4, 4]), mom::CountMerge::Kept(3.0));
+//! assert_eq!(merge(0.0, &[], [0; 4]), mom::CountMerge::Merged(0));
+//!
+//! let protected = [mom::to_zuniq(0, 0).unwrap()];
+//! assert_eq!(merge(3.5, &protected, [1, 2, 4, 4]), mom::CountMerge::Kept(3.0));
+//! assert_eq!(merge(3.5, &protected, [0; 4]), mom::CountMerge::Merged(0));
 //! ```
 
 pub mod columns;
@@ -120,26 +132,29 @@ pub fn are_overlapping(zuniq_l: u64, zuniq_r: u64) -> Result<bool, Refusal> {
     Ok(overlaps != 0)
 }
 
-/// The counts of the four children of a cell at `parent_depth`, merged where that is at least
-/// `depth_threshold` and their chi-square is below `chi2_threshold`. Four counts of 0, blank sky, are
-/// merged at any `chi2_threshold`, from `depth_threshold` on. Refused by 1: the parent depth is over
-/// 28; then by 2: the depth threshold is over 29; then by 3: the chi-square threshold is a NaN; then by
+/// The counts of the four children of a cell, merged where `parent_depth` is at least `depth_threshold`,
+/// their chi-square is below `chi2_threshold` and the cell isn't in `protected`. Four counts of 0, blank
+/// sky, are merged at any `chi2_threshold`, from `depth_threshold` on, under a protected parent too.
+/// Refused by 1: the parent depth is over 28; then by 2: the depth threshold is over 29; then by 3: the
+/// chi-square threshold is a NaN; then by 15: a protected parent is not a valid zuniq, or not above the
+/// one before, the place is its index; then by 7: the parent hash is N(parent depth) or more; then by
 /// 10: the sum of the four is no u32.
 pub fn chi2_count_merger(
     parent_depth: u8,
+    parent_hash: u64,
     depth_threshold: u8,
     chi2_threshold: f64,
-    [n0, n1, n2, n3]: [u32; 4],
+    protected: &[u64],
+    counts: [u32; 4],
 ) -> Result<CountMerge, Refusal> {
     let mut chi2 = 0.0;
-    let merged = raw::merged(raw::mom_chi2_count_merger(
+    let merged = raw::merged(raw::chi2_count_merger(
         parent_depth,
+        parent_hash,
         depth_threshold,
         chi2_threshold,
-        n0,
-        n1,
-        n2,
-        n3,
+        protected,
+        counts,
         &mut chi2,
     ))?;
     Ok(match merged {
@@ -148,25 +163,26 @@ pub fn chi2_count_merger(
     })
 }
 
-/// The densities of the four children, merged where `parent_depth` is at least `depth_threshold` and
-/// their chi-square is below `chi2_threshold`; four of 0 are judged by it like others. Refused by 1, 2
-/// and 3 as for counts; then by 9: a density is NaN, infinite or below 0 (−0 is none of these); the
-/// place is the first such child.
+/// The densities of the four children, merged where `parent_depth` is at least `depth_threshold`, their
+/// chi-square is below `chi2_threshold` and the cell isn't in `protected`; four of 0 are judged like
+/// others. Refused by 1, 2, 3, 15 and 7 as for counts; then by 9: a density is NaN, infinite or below 0
+/// (−0 is none of these); the place is the first such child.
 pub fn chi2_density_merger(
     parent_depth: u8,
+    parent_hash: u64,
     depth_threshold: u8,
     chi2_threshold: f64,
-    [m0, m1, m2, m3]: [f64; 4],
+    protected: &[u64],
+    densities: [f64; 4],
 ) -> Result<DensityMerge, Refusal> {
     let mut answer = 0.0;
-    let merged = raw::merged(raw::mom_chi2_density_merger(
+    let merged = raw::merged(raw::chi2_density_merger(
         parent_depth,
+        parent_hash,
         depth_threshold,
         chi2_threshold,
-        m0,
-        m1,
-        m2,
-        m3,
+        protected,
+        densities,
         &mut answer,
     ))?;
     Ok(match merged {
@@ -214,12 +230,13 @@ pub fn density_of_count(depth: u8, count: u32) -> Result<f64, Refusal> {
 /// Adds cells of that depth, given by `hashes` and their counts in `batch`, to the map in the first
 /// `held` places of `zuniqs` and `counts`. Each cell is appended; while the last four entries are
 /// the children of one parent and the count merger accepts them, they are replaced by the parent: so
-/// blank sky is merged at any chi-square threshold, as far up as the depth threshold lets it. Cells of
-/// depth 0 have no parent, and stay as they are. Every place after the entries is 0. A refused call
-/// leaves both buffers as they were.
+/// blank sky is merged at any chi-square threshold, as far up as the depth threshold lets it, and other
+/// children of a parent in `protected` are kept. Cells of depth 0 have no parent, and stay as they are.
+/// Every place after the entries is 0. A refused call leaves both buffers as they were.
 ///
 /// Refused by 1: the depth is over 29; then by 2: the depth threshold is over 29; then by 3: the
-/// chi-square threshold is a NaN; then by 4: the buffers or the batch's two parts differ in length,
+/// chi-square threshold is a NaN; then by 15: a protected parent is not a valid zuniq, or not above the
+/// one before, the place is its index; then by 4: the buffers or the batch's two parts differ in length,
 /// or `held` is more than the buffers have; then by 5: the held entries are no valid map of that
 /// depth, the place is the faulty entry; then, cell by cell, by 7: its hash is N(depth) or more, and
 /// by 8: it isn't above the one before it, or the first starts before the last held entry ends; then
@@ -230,6 +247,7 @@ pub fn add_counts(
     depth: u8,
     depth_threshold: u8,
     chi2_threshold: f64,
+    protected: &[u64],
     held: usize,
     zuniqs: &mut [u64],
     counts: &mut [u32],
@@ -241,6 +259,7 @@ pub fn add_counts(
         depth,
         depth_threshold,
         chi2_threshold,
+        protected,
         held,
         zuniqs,
         counts,
@@ -257,15 +276,16 @@ pub fn add_counts(
 /// Answers the number of entries; every place after them is 0. A refused call leaves both buffers as
 /// they were.
 ///
-/// Refused by 1 to 5 as for counts; then by 6: a held density is NaN, infinite or below 0 (−0 is
-/// none of these), the place is the entry; then, cell by cell, by 7 and 8 as for counts, and by 9:
-/// its density is NaN, infinite or below 0; then by 11: the buffers have fewer places than held and
+/// Refused by 1, 2, 3, 15, 4 and 5 as for counts; then by 6: a held density is NaN, infinite or below 0
+/// (−0 is none of these), the place is the entry; then, cell by cell, by 7 and 8 as for counts, and by
+/// 9: its density is NaN, infinite or below 0; then by 11: the buffers have fewer places than held and
 /// batch together.
 #[allow(clippy::too_many_arguments)]
 pub fn add_densities(
     depth: u8,
     depth_threshold: u8,
     chi2_threshold: f64,
+    protected: &[u64],
     held: usize,
     zuniqs: &mut [u64],
     densities: &mut [f64],
@@ -276,6 +296,7 @@ pub fn add_densities(
         depth,
         depth_threshold,
         chi2_threshold,
+        protected,
         held,
         zuniqs,
         densities,

@@ -15,7 +15,7 @@
 //!
 //! let (mut zuniqs, mut counts) = ([0; 4], [0; 4]);
 //! let (hashes, batch) = ([0, 1, 2, 3], [1, 2, 4, 4]);
-//! let added = narrow::add_counts(1, 0, 3.5, 0, &mut zuniqs, &mut counts, &hashes, &batch)?;
+//! let added = narrow::add_counts(1, 0, 3.5, &[], 0, &mut zuniqs, &mut counts, &hashes, &batch)?;
 //! assert_eq!((added.entries, added.total), (1, 11));
 //! assert_eq!(zuniqs[0], narrow::to_zuniq(0, 0)?);
 //! # Ok::<(), mom::Refusal>(())
@@ -83,16 +83,17 @@ pub fn get_overlapped_cells(zuniqs: &[u32], zuniq: u32) -> Result<(usize, &[u32]
 
 /// Adds cells of that depth, given by `hashes` and their counts in `batch`, to the map in the first
 /// `held` places of `zuniqs` and `counts`, as [`crate::add_counts`] does, by the same merger, which
-/// merges blank sky at any chi-square threshold. Every place after the entries is 0. A refused call
-/// leaves both buffers as they were.
+/// merges blank sky at any chi-square threshold and keeps other children of a parent in `protected`.
+/// Every place after the entries is 0. A refused call leaves both buffers as they were.
 ///
 /// Refused by 1: the depth is over 13; then by 2: the depth threshold is over 29 (from 13 on nothing
-/// is merged); then by 3, 4, 5, 7, 8, 10 and 11 as [`crate::add_counts`] is.
+/// is merged); then by 3, 15, 4, 5, 7, 8, 10 and 11 as [`crate::add_counts`] is.
 #[allow(clippy::too_many_arguments)]
 pub fn add_counts(
     depth: u8,
     depth_threshold: u8,
     chi2_threshold: f64,
+    protected: &[u32],
     held: usize,
     zuniqs: &mut [u32],
     counts: &mut [u32],
@@ -104,6 +105,7 @@ pub fn add_counts(
         depth,
         depth_threshold,
         chi2_threshold,
+        protected,
         held,
         zuniqs,
         counts,

@@ -17,20 +17,26 @@ unsafe extern "C" {
     pub safe fn mom_to_zuniq(depth: u8, hash: u64, zuniq: &mut u64) -> u64;
     pub safe fn mom_from_zuniq(zuniq: u64, depth: &mut u8, hash: &mut u64) -> u64;
     pub safe fn mom_are_overlapping(zuniq_l: u64, zuniq_r: u64) -> u64;
-    pub safe fn mom_chi2_count_merger(
+    fn mom_chi2_count_merger(
         parent_depth: u8,
+        parent_hash: u64,
         depth_threshold: u8,
         chi2_threshold: f64,
+        protected_parents: *const u64,
+        pl: usize,
         n0: u32,
         n1: u32,
         n2: u32,
         n3: u32,
         chi2: &mut f64,
     ) -> u64;
-    pub safe fn mom_chi2_density_merger(
+    fn mom_chi2_density_merger(
         parent_depth: u8,
+        parent_hash: u64,
         depth_threshold: u8,
         chi2_threshold: f64,
+        protected_parents: *const u64,
+        pl: usize,
         m0: f64,
         m1: f64,
         m2: f64,
@@ -50,6 +56,8 @@ unsafe extern "C" {
         depth: u8,
         depth_threshold: u8,
         chi2_threshold: f64,
+        protected_parents: *const u64,
+        pl: usize,
         held: usize,
         zuniqs: *mut u64,
         zl: usize,
@@ -65,6 +73,8 @@ unsafe extern "C" {
         depth: u8,
         depth_threshold: u8,
         chi2_threshold: f64,
+        protected_parents: *const u64,
+        pl: usize,
         held: usize,
         zuniqs: *mut u64,
         zl: usize,
@@ -78,6 +88,60 @@ unsafe extern "C" {
 }
 
 // A slice passes as its pointer and its length.
+
+pub fn chi2_count_merger(
+    parent_depth: u8,
+    parent_hash: u64,
+    depth_threshold: u8,
+    chi2_threshold: f64,
+    protected: &[u64],
+    [n0, n1, n2, n3]: [u32; 4],
+    chi2: &mut f64,
+) -> u64 {
+    // SAFETY: pointer and length are those of one slice.
+    unsafe {
+        mom_chi2_count_merger(
+            parent_depth,
+            parent_hash,
+            depth_threshold,
+            chi2_threshold,
+            protected.as_ptr(),
+            protected.len(),
+            n0,
+            n1,
+            n2,
+            n3,
+            chi2,
+        )
+    }
+}
+
+pub fn chi2_density_merger(
+    parent_depth: u8,
+    parent_hash: u64,
+    depth_threshold: u8,
+    chi2_threshold: f64,
+    protected: &[u64],
+    [m0, m1, m2, m3]: [f64; 4],
+    answer: &mut f64,
+) -> u64 {
+    // SAFETY: pointer and length are those of one slice.
+    unsafe {
+        mom_chi2_density_merger(
+            parent_depth,
+            parent_hash,
+            depth_threshold,
+            chi2_threshold,
+            protected.as_ptr(),
+            protected.len(),
+            m0,
+            m1,
+            m2,
+            m3,
+            answer,
+        )
+    }
+}
 
 pub fn check_is_mom(depth: u8, zuniqs: &[u64]) -> u64 {
     // SAFETY: pointer and length are those of one slice.
@@ -99,6 +163,7 @@ pub fn add_counts(
     depth: u8,
     depth_threshold: u8,
     chi2_threshold: f64,
+    protected: &[u64],
     held: usize,
     zuniqs: &mut [u64],
     counts: &mut [u32],
@@ -107,12 +172,14 @@ pub fn add_counts(
     total: &mut u32,
 ) -> u64 {
     // SAFETY: each pointer and the length after it are those of one slice, and no two of the slices
-    // overlap, two of them being lent alone.
+    // overlap where one is written, two of them being lent alone.
     unsafe {
         mom_add_counts(
             depth,
             depth_threshold,
             chi2_threshold,
+            protected.as_ptr(),
+            protected.len(),
             held,
             zuniqs.as_mut_ptr(),
             zuniqs.len(),
@@ -132,6 +199,7 @@ pub fn add_densities(
     depth: u8,
     depth_threshold: u8,
     chi2_threshold: f64,
+    protected: &[u64],
     held: usize,
     zuniqs: &mut [u64],
     densities: &mut [f64],
@@ -144,6 +212,8 @@ pub fn add_densities(
             depth,
             depth_threshold,
             chi2_threshold,
+            protected.as_ptr(),
+            protected.len(),
             held,
             zuniqs.as_mut_ptr(),
             zuniqs.len(),
@@ -265,18 +335,42 @@ mod tests {
         (number as u64) << 56 | place
     }
 
+    /// (0, 0) and (0, 1), then (0, 0) again.
+    const NOT_RISING: &[u64] = &[1 << 58, 3 << 58, 1 << 58];
+
     /// The word of the count merger, and what stands behind its pointer after it.
-    fn count_merger(p: u8, m: u8, t: f64, [n0, n1, n2, n3]: [u32; 4]) -> (u64, f64) {
+    fn count_merger_under(
+        protected: &[u64],
+        (p, h): (u8, u64),
+        m: u8,
+        t: f64,
+        counts: [u32; 4],
+    ) -> (u64, f64) {
         let mut chi2 = UNTOUCHED_F64;
-        let word = mom_chi2_count_merger(p, m, t, n0, n1, n2, n3, &mut chi2);
+        let word = chi2_count_merger(p, h, m, t, protected, counts, &mut chi2);
         (word, chi2)
     }
 
+    /// That of the first cell of a depth, and no protected parent.
+    fn count_merger(p: u8, m: u8, t: f64, counts: [u32; 4]) -> (u64, f64) {
+        count_merger_under(&[], (p, 0), m, t, counts)
+    }
+
     /// The same of the density merger.
-    fn density_merger(p: u8, m: u8, t: f64, [m0, m1, m2, m3]: [f64; 4]) -> (u64, f64) {
+    fn density_merger_under(
+        protected: &[u64],
+        (p, h): (u8, u64),
+        m: u8,
+        t: f64,
+        densities: [f64; 4],
+    ) -> (u64, f64) {
         let mut answer = UNTOUCHED_F64;
-        let word = mom_chi2_density_merger(p, m, t, m0, m1, m2, m3, &mut answer);
+        let word = chi2_density_merger(p, h, m, t, protected, densities, &mut answer);
         (word, answer)
+    }
+
+    fn density_merger(p: u8, m: u8, t: f64, densities: [f64; 4]) -> (u64, f64) {
+        density_merger_under(&[], (p, 0), m, t, densities)
     }
 
     #[test]
@@ -340,44 +434,54 @@ mod tests {
 
     #[test]
     fn a_refused_count_merger_writes_nothing() {
+        let (nan, past) = (f64::NAN, 12 << 56);
         let calls = [
-            (29, 0, 1.0, [0; 4], 1),
-            (255, 255, f64::NAN, [u32::MAX; 4], 1),
-            (28, 30, 1.0, [0; 4], 2),
-            (0, 255, f64::NAN, [u32::MAX; 4], 2),
-            (28, 29, f64::NAN, [0; 4], 3),
-            (0, 0, -f64::NAN, [u32::MAX; 4], 3),
-            (0, 0, f64::INFINITY, [u32::MAX, 1, 0, 0], 10),
-            (0, 29, f64::NEG_INFINITY, [u32::MAX; 4], 10),
+            ((29, 0), 0, 1.0, &[][..], [0; 4], 1, 0),
+            ((255, past), 255, nan, NOT_RISING, [u32::MAX; 4], 1, 0),
+            ((28, 0), 30, 1.0, &[], [0; 4], 2, 0),
+            ((0, past), 255, nan, NOT_RISING, [u32::MAX; 4], 2, 0),
+            ((28, 0), 29, nan, &[], [0; 4], 3, 0),
+            ((0, past), 0, -nan, NOT_RISING, [u32::MAX; 4], 3, 0),
+            ((0, 0), 0, 1.0, &[0], [0; 4], 15, 0),
+            ((28, past), 0, 1.0, NOT_RISING, [u32::MAX; 4], 15, 2),
+            ((0, 12), 0, 1.0, &[1 << 58], [0; 4], 7, 0),
+            ((28, past), 0, 1.0, &[], [u32::MAX; 4], 7, 0),
+            ((0, 0), 0, f64::INFINITY, &[], [u32::MAX, 1, 0, 0], 10, 0),
+            ((28, past - 1), 29, -1.0, &[1 << 58], [u32::MAX; 4], 10, 0),
         ];
-        for (p, m, t, counts, number) in calls {
+        for (parent, m, t, protected, counts, number, place) in calls {
             assert_eq!(
-                count_merger(p, m, t, counts),
-                (refused(number, 0), UNTOUCHED_F64),
-                "{p} {m} {t} {counts:?}"
+                count_merger_under(protected, parent, m, t, counts),
+                (refused(number, place), UNTOUCHED_F64),
+                "{parent:?} {m} {t} {protected:?} {counts:?}"
             );
         }
     }
 
     #[test]
     fn a_refused_density_merger_writes_nothing() {
+        let (nan, past) = (f64::NAN, 12 << 56);
         let calls = [
-            (29, 0, 1.0, [0.0; 4], 1, 0),
-            (255, 255, f64::NAN, [f64::NAN; 4], 1, 0),
-            (28, 30, 1.0, [0.0; 4], 2, 0),
-            (0, 255, f64::NAN, [f64::NAN; 4], 2, 0),
-            (28, 29, f64::NAN, [0.0; 4], 3, 0),
-            (0, 0, -f64::NAN, [f64::NAN; 4], 3, 0),
-            (0, 0, 1.0, [-5e-324, 0.0, 0.0, 0.0], 9, 0),
-            (0, 0, 1.0, [0.0, f64::INFINITY, 0.0, -1.0], 9, 1),
-            (0, 0, 1.0, [0.0, -0.0, f64::NAN, -1.0], 9, 2),
-            (0, 29, -1.0, [0.0, 1.0, 2.0, f64::NEG_INFINITY], 9, 3),
+            ((29, 0), 0, 1.0, &[][..], [0.0; 4], 1, 0),
+            ((255, past), 255, nan, NOT_RISING, [nan; 4], 1, 0),
+            ((28, 0), 30, 1.0, &[], [0.0; 4], 2, 0),
+            ((0, past), 255, nan, NOT_RISING, [nan; 4], 2, 0),
+            ((28, 0), 29, nan, &[], [0.0; 4], 3, 0),
+            ((0, past), 0, -nan, NOT_RISING, [nan; 4], 3, 0),
+            ((0, 0), 0, 1.0, &[0], [0.0; 4], 15, 0),
+            ((28, past), 0, 1.0, NOT_RISING, [nan; 4], 15, 2),
+            ((0, 12), 0, 1.0, &[1 << 58], [0.0; 4], 7, 0),
+            ((28, past), 0, 1.0, &[], [nan; 4], 7, 0),
+            ((0, 0), 0, 1.0, &[], [-5e-324, 0.0, 0.0, 0.0], 9, 0),
+            ((0, 0), 0, 1.0, &[], [0.0, f64::INFINITY, 0.0, -1.0], 9, 1),
+            ((28, past - 1), 0, 1.0, &[], [0.0, -0.0, nan, -1.0], 9, 2),
+            ((0, 0), 29, -1.0, &[1 << 58], [0.0, 1.0, 2.0, -1.0], 9, 3),
         ];
-        for (p, m, t, densities, number, place) in calls {
+        for (parent, m, t, protected, densities, number, place) in calls {
             assert_eq!(
-                density_merger(p, m, t, densities),
+                density_merger_under(protected, parent, m, t, densities),
                 (refused(number, place), UNTOUCHED_F64),
-                "{p} {m} {t} {densities:?}"
+                "{parent:?} {m} {t} {protected:?} {densities:?}"
             );
         }
     }
@@ -423,6 +527,18 @@ mod tests {
         );
     }
 
+    /// Under a protected parent chi is written where four would be merged, and blanks write none.
+    #[test]
+    fn protected_children_write_their_chi_and_blanks_under_them_none() {
+        let (list, parent) = (&[1 << 58], (0, 0));
+        let counts = count_merger_under(list, parent, 0, 3.5, [1, 2, 4, 4]);
+        assert_eq!(counts, (refused(KEPT, 0), 3.0));
+        let blanks = count_merger_under(list, parent, 0, 3.5, [0; 4]);
+        assert_eq!(blanks, (0, UNTOUCHED_F64));
+        let densities = density_merger_under(list, parent, 0, 3.5, [16.0; 4]);
+        assert_eq!(densities, (refused(KEPT, 0), 0.0));
+    }
+
     #[test]
     fn a_refused_run_writes_no_number_and_an_empty_one_writes_0() {
         let map = [1, 3];
@@ -439,6 +555,15 @@ mod tests {
         }
     }
 
+    /// The protected parents of a call that is refused by this number: wrong ones, unless they would be
+    /// refused before it.
+    fn list_of(number: u8) -> &'static [u64] {
+        match number {
+            1 | 2 | 3 | 15 => NOT_RISING,
+            _ => &[],
+        }
+    }
+
     #[test]
     fn refused_counts_write_nothing() {
         let (mut zuniqs, mut counts, mut total) = ([1, 3, 7, 9], [1, u32::MAX - 9, 7, 9], 77);
@@ -449,6 +574,7 @@ mod tests {
             (0, 30, nan, 5, &[12], &[1], 2, 0),
             (deep, 30, nan, 5, &[hash], &[1], 2, 0),
             (deep, 29, nan, 5, &[hash], &[1], 3, 0),
+            (deep, 29, 1.0, 5, &[hash], &[1], 15, 2),
             (deep, 29, 1.0, 5, &[hash], &[1], 4, 0),
             (deep, 29, 1.0, 2, &[hash], &[], 4, 0),
             (28, 0, 1.0, 2, &[0], &[1], 5, 0),
@@ -462,7 +588,8 @@ mod tests {
             (deep, 0, 1.0, 2, &[2, 3, hash], &[8, 0, 0], 11, 0),
         ] {
             let (z, c) = (&mut zuniqs, &mut counts);
-            let word = add_counts(depth, m, t, held, z, c, hashes, batch, &mut total);
+            let list = list_of(number);
+            let word = add_counts(depth, m, t, list, held, z, c, hashes, batch, &mut total);
             assert_eq!(word, refused(number, place), "{hashes:?} {batch:?}");
             assert_eq!(((zuniqs, counts), total), (before, 77));
         }
@@ -479,6 +606,7 @@ mod tests {
             (0, 30, nan, 5, &[12], &[1.0], 2, 0),
             (deep, 30, nan, 5, &[hash], &[1.0], 2, 0),
             (deep, 29, nan, 5, &[hash], &[1.0], 3, 0),
+            (deep, 29, 1.0, 5, &[hash], &[1.0], 15, 2),
             (deep, 29, 1.0, 5, &[hash], &[1.0], 4, 0),
             (deep, 29, 1.0, 2, &[hash], &[], 4, 0),
             (28, 0, 1.0, 4, &[0], &[nan], 5, 0),
@@ -493,7 +621,8 @@ mod tests {
             (deep, 0, 1.0, 2, &[3, 4, hash], &[0.0, -0.0, 0.0], 11, 0),
         ] {
             let (z, d) = (&mut zuniqs, &mut densities);
-            let word = add_densities(depth, m, t, held, z, d, hashes, batch);
+            let list = list_of(number);
+            let word = add_densities(depth, m, t, list, held, z, d, hashes, batch);
             assert_eq!(word, refused(number, place), "{hashes:?} {batch:?}");
             assert_eq!((zuniqs, densities.map(f64::to_bits)), before);
         }
@@ -509,6 +638,10 @@ mod tests {
             (refused(12, widest), Refusal::InvalidQuery(widest as usize)),
             (refused(13, widest), Refusal::EntryTooDeep(widest as usize)),
             (refused(14, widest), Refusal::InvalidRange(widest as usize)),
+            (
+                refused(15, widest),
+                Refusal::InvalidProtected(widest as usize),
+            ),
         ] {
             assert_eq!(unpack(word), Answer::Refused(refusal));
         }
@@ -539,7 +672,7 @@ mod tests {
     #[test]
     #[should_panic(expected = "mom.h doesn't allow")]
     fn an_unknown_number_is_not_taken_for_a_refusal() {
-        unpack(refused(15, 0));
+        unpack(refused(16, 0));
     }
 
     #[test]

@@ -4,8 +4,9 @@ use std::{error::Error, fmt};
 
 /// Why a call is refused: a case for each number of the scope's table, in checking order, but that 13
 /// is tried after 5; the first that applies is given. A case that has a place holds it, counted from
-/// 0: the entry of a map, the range of a coverage, the cell of a batch, the child of a merger's four, the
-/// query of a test's two. A refused call has touched no memory that was lent to it.
+/// 0: the index of a protected parent, the entry of a map, the range of a coverage, the cell of a batch,
+/// the child of a merger's four, the query of a test's two. A refused call has touched no memory that was
+/// lent to it.
 #[derive(Clone, Copy, Debug, PartialEq, Eq, Hash)]
 #[non_exhaustive]
 pub enum Refusal {
@@ -16,6 +17,8 @@ pub enum Refusal {
     /// 3: the chi-square threshold T is NaN, or the factor k of a product is NaN, infinite or
     /// below 0.
     InvalidThresholdOrFactor,
+    /// 15: the protected parent of this index is not a valid zuniq, or not above the one before.
+    InvalidProtected(usize),
     /// 4: paired buffers differ in length, a stated number exceeds its buffer, row bytes are no whole
     /// number of rows, or a row length is none of 8, 12 and 16.
     LengthMismatch,
@@ -26,7 +29,7 @@ pub enum Refusal {
     /// 14: this range of a coverage is empty, ends past N(29), or doesn't start above the end of the one
     /// before.
     InvalidRange(usize),
-    /// 7: the hash of this cell is not below N(depth).
+    /// 7: the hash of this cell, or of a merger's parent, is not below N(depth).
     HashOutOfRange(usize),
     /// 8: this cell is not above the one before, or is the batch's first and starts before the last
     /// held entry ends.
@@ -63,6 +66,7 @@ impl Refusal {
             (12, query) => Refusal::InvalidQuery(query),
             (13, entry) => Refusal::EntryTooDeep(entry),
             (14, range) => Refusal::InvalidRange(range),
+            (15, index) => Refusal::InvalidProtected(index),
             _ => return None,
         })
     }
@@ -73,6 +77,7 @@ impl Refusal {
             Refusal::DepthOutOfRange => 1,
             Refusal::DepthThresholdOutOfRange => 2,
             Refusal::InvalidThresholdOrFactor => 3,
+            Refusal::InvalidProtected(_) => 15,
             Refusal::LengthMismatch => 4,
             Refusal::InvalidMap(_) => 5,
             Refusal::InvalidMapDensity(_) => 6,
@@ -90,7 +95,8 @@ impl Refusal {
     /// Where it is wrong, counted from 0; 0 where the case has no place.
     pub fn place(self) -> usize {
         match self {
-            Refusal::InvalidMap(place)
+            Refusal::InvalidProtected(place)
+            | Refusal::InvalidMap(place)
             | Refusal::InvalidMapDensity(place)
             | Refusal::InvalidRange(place)
             | Refusal::HashOutOfRange(place)
@@ -113,6 +119,9 @@ impl Refusal {
             Refusal::DepthThresholdOutOfRange => "the depth threshold M is over 29",
             Refusal::InvalidThresholdOrFactor => {
                 "the chi-square threshold T is NaN, or the factor k is NaN, infinite or below 0"
+            }
+            Refusal::InvalidProtected(_) => {
+                "the protected parent is not a valid zuniq, or not above the one before"
             }
             Refusal::LengthMismatch => {
                 "paired buffers differ in length, a stated number exceeds its buffer, row bytes \
@@ -161,7 +170,7 @@ mod tests {
 
     #[test]
     fn no_number_and_no_place_is_lost() {
-        for number in 1..=14 {
+        for number in 1..=15 {
             let has_place = ![1, 2, 3, 4, 11].contains(&number);
             for place in [0, 1, usize::MAX >> 8] {
                 let refusal = Refusal::of(number, place);
@@ -174,7 +183,7 @@ mod tests {
 
     #[test]
     fn no_other_number_is_a_refusal() {
-        for number in [0, 15, 64, 65, 255] {
+        for number in [0, 16, 64, 65, 255] {
             assert_eq!(Refusal::of(number, 0), None);
         }
     }
@@ -185,8 +194,8 @@ mod tests {
             Refusal::HashOutOfRange(7).to_string(),
             "refused by 7 at place 7: the cell's hash is N(depth) or more"
         );
-        let words = (1..=14).map(|number| Refusal::of(number, 0).unwrap().words());
+        let words = (1..=15).map(|number| Refusal::of(number, 0).unwrap().words());
         let different: std::collections::BTreeSet<_> = words.collect();
-        assert_eq!(different.len(), 14);
+        assert_eq!(different.len(), 15);
     }
 }

@@ -9,9 +9,9 @@ fn built(depth: u8, m: u8, t: f64, cells: &[(u64, u32)], cut: usize) -> Vec<Entr
     let (hashes, batch): (Vec<u64>, Vec<u32>) = cells.iter().copied().unzip();
     let (mut zuniqs, mut counts) = (vec![5; cells.len()], vec![5; cells.len()]);
     let (z, c) = (&mut zuniqs, &mut counts);
-    let first = add_counts(depth, m, t, 0, z, c, &hashes[..cut], &batch[..cut]).unwrap();
+    let first = add_counts(depth, m, t, &[], 0, z, c, &hashes[..cut], &batch[..cut]).unwrap();
     let held = first.entries;
-    let added = add_counts(depth, m, t, held, z, c, &hashes[cut..], &batch[cut..]).unwrap();
+    let added = add_counts(depth, m, t, &[], held, z, c, &hashes[cut..], &batch[cut..]).unwrap();
     let Added { entries, total } = added;
     assert_eq!(total, batch.iter().sum::<u32>());
     assert!(zuniqs[entries..].iter().all(|&z| z == 0));
@@ -138,7 +138,17 @@ fn no_merge_is_left_undone_however_far_it_goes() {
             }
         }
         let last = (top << 58) + (1 << 58) - 1;
-        let added = add_counts(29, 0, t, held, &mut zuniqs, &mut counts, &[last], &[total]);
+        let added = add_counts(
+            29,
+            0,
+            t,
+            &[],
+            held,
+            &mut zuniqs,
+            &mut counts,
+            &[last],
+            &[total],
+        );
         let entries = 1;
         assert_eq!(added, Ok(Added { entries, total }));
         assert_eq!((zuniqs[0], counts[0]), (to_zuniq(0, top).unwrap(), total));

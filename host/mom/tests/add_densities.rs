@@ -10,8 +10,9 @@ fn built(depth: u8, m: u8, t: f64, cells: &[(u64, f64)], cut: usize) -> Vec<Entr
     let (hashes, batch): (Vec<u64>, Vec<f64>) = cells.iter().copied().unzip();
     let (mut zuniqs, mut densities) = (vec![5; cells.len()], vec![5.5; cells.len()]);
     let (z, d) = (&mut zuniqs, &mut densities);
-    let held = add_densities(depth, m, t, 0, z, d, &hashes[..cut], &batch[..cut]).unwrap();
-    let entries = add_densities(depth, m, t, held, z, d, &hashes[cut..], &batch[cut..]).unwrap();
+    let held = add_densities(depth, m, t, &[], 0, z, d, &hashes[..cut], &batch[..cut]).unwrap();
+    let entries =
+        add_densities(depth, m, t, &[], held, z, d, &hashes[cut..], &batch[cut..]).unwrap();
     assert!(zuniqs[entries..].iter().all(|&z| z == 0));
     assert!(densities[entries..].iter().all(|&m| m.to_bits() == 0));
     (0..entries)
@@ -98,7 +99,7 @@ fn no_merge_is_left_undone_however_far_it_goes() {
         }
         let last = (top << 58) + (1 << 58) - 1;
         let (z, d) = (&mut zuniqs, &mut densities);
-        let added = add_densities(29, 0, f64::INFINITY, held, z, d, &[last], &[0.25]);
+        let added = add_densities(29, 0, f64::INFINITY, &[], held, z, d, &[last], &[0.25]);
         assert_eq!(added, Ok(1));
         assert_eq!((zuniqs[0], densities[0]), (to_zuniq(0, top).unwrap(), 0.25));
         assert!(zuniqs[1..].iter().all(|&zuniq| zuniq == 0));
@@ -151,6 +152,7 @@ impl Call {
             self.depth,
             self.m,
             self.t,
+            &[],
             self.held,
             &mut self.zuniqs,
             &mut self.densities,

@@ -108,7 +108,7 @@ fn no_list_of_blank_cells_is_built_into_another_map() {
         for m in 0..=2 {
             let (mut z, mut n) = ([7; 16], [7; 16]);
             let batch = &[0; 16][..hashes.len()];
-            let added = add_counts(2, m, 0.0, 0, &mut z, &mut n, &hashes, batch).unwrap();
+            let added = add_counts(2, m, 0.0, &[], 0, &mut z, &mut n, &hashes, batch).unwrap();
             assert_eq!(z[..added.entries], defined_map(list, m), "{hashes:?} {m}");
             assert_eq!((added.total, n), (0, [0; 16]));
         }

@@ -91,13 +91,13 @@ fn no_fault_of_the_right_hides_one_of_the_left() {
 
 #[test]
 fn no_parent_depth_over_28_is_taken() {
-    assert!(chi2_count_merger(28, 29, 1.0, [0; 4]).is_ok());
-    assert!(chi2_density_merger(28, 29, 1.0, [0.0; 4]).is_ok());
+    assert!(chi2_count_merger(28, 0, 29, 1.0, &[], [0; 4]).is_ok());
+    assert!(chi2_density_merger(28, 0, 29, 1.0, &[], [0.0; 4]).is_ok());
     for p in 29..=255 {
         for (m, t) in [(0, 1.0), (29, 1.0), (30, f64::NAN), (p, 1.0)] {
-            let counts = chi2_count_merger(p, m, t, [u32::MAX; 4]);
+            let counts = chi2_count_merger(p, 0, m, t, &[], [u32::MAX; 4]);
             assert_eq!(counts, refusal(1, 0), "{p} {m} {t}");
-            let densities = chi2_density_merger(p, m, t, [-1.0; 4]);
+            let densities = chi2_density_merger(p, 0, m, t, &[], [-1.0; 4]);
             assert_eq!(densities, refusal(1, 0), "{p} {m} {t}");
         }
     }
@@ -107,9 +107,9 @@ fn no_parent_depth_over_28_is_taken() {
 fn no_depth_threshold_over_29_is_taken() {
     for m in 30..=255 {
         for (p, t) in [(0, 1.0), (28, f64::NAN)] {
-            let counts = chi2_count_merger(p, m, t, [u32::MAX; 4]);
+            let counts = chi2_count_merger(p, 0, m, t, &[], [u32::MAX; 4]);
             assert_eq!(counts, refusal(2, 0), "{p} {m} {t}");
-            let densities = chi2_density_merger(p, m, t, [-1.0; 4]);
+            let densities = chi2_density_merger(p, 0, m, t, &[], [-1.0; 4]);
             assert_eq!(densities, refusal(2, 0), "{p} {m} {t}");
         }
     }
@@ -118,9 +118,9 @@ fn no_depth_threshold_over_29_is_taken() {
 #[test]
 fn no_nan_is_taken_for_a_threshold() {
     for t in NANS.map(f64::from_bits) {
-        let counts = chi2_count_merger(0, 29, t, [u32::MAX; 4]);
+        let counts = chi2_count_merger(0, 0, 29, t, &[], [u32::MAX; 4]);
         assert_eq!(counts, refusal(3, 0), "{t}");
-        let densities = chi2_density_merger(0, 29, t, [-1.0; 4]);
+        let densities = chi2_density_merger(0, 0, 29, t, &[], [-1.0; 4]);
         assert_eq!(densities, refusal(3, 0), "{t}");
     }
 }
@@ -130,15 +130,15 @@ fn no_other_threshold_is_refused() {
     let merged = [f64::INFINITY, f64::MAX, 5e-324];
     let kept = [0.0, -0.0, -5e-324, -f64::MAX, f64::NEG_INFINITY];
     for t in merged {
-        let counts = chi2_count_merger(0, 0, t, [4; 4]);
+        let counts = chi2_count_merger(0, 0, 0, t, &[], [4; 4]);
         assert_eq!(counts, Ok(CountMerge::Merged(16)), "{t}");
-        let densities = chi2_density_merger(0, 0, t, [4.0; 4]);
+        let densities = chi2_density_merger(0, 0, 0, t, &[], [4.0; 4]);
         assert_eq!(densities, Ok(DensityMerge::Merged(4.0)), "{t}");
     }
     for t in kept {
-        let counts = chi2_count_merger(0, 0, t, [4; 4]);
+        let counts = chi2_count_merger(0, 0, 0, t, &[], [4; 4]);
         assert_eq!(counts, Ok(CountMerge::Kept(0.0)), "{t}");
-        let densities = chi2_density_merger(0, 0, t, [4.0; 4]);
+        let densities = chi2_density_merger(0, 0, 0, t, &[], [4.0; 4]);
         assert_eq!(densities, Ok(DensityMerge::Kept(0.0)), "{t}");
     }
 }
@@ -150,18 +150,21 @@ fn no_sum_past_a_u32_is_taken() {
         for child in 0..4 {
             let mut counts = [0; 4];
             counts[child] = u32::MAX;
-            assert!(chi2_count_merger(0, m, t, counts).is_ok(), "{counts:?}");
+            assert!(
+                chi2_count_merger(0, 0, m, t, &[], counts).is_ok(),
+                "{counts:?}"
+            );
             counts[(child + 1) % 4] = 1;
-            let past = chi2_count_merger(0, m, t, counts);
+            let past = chi2_count_merger(0, 0, m, t, &[], counts);
             assert_eq!(past, refusal(10, 0), "{counts:?}");
         }
         for counts in [[1 << 30; 4], [1 << 31, 1 << 31, 0, 0], [u32::MAX; 4]] {
-            let past = chi2_count_merger(0, m, t, counts);
+            let past = chi2_count_merger(0, 0, m, t, &[], counts);
             assert_eq!(past, refusal(10, 0), "{counts:?}");
         }
     }
     let largest = [u32::MAX >> 2, (u32::MAX >> 2) + 1, 1 << 30, 1 << 30];
-    let merged = chi2_count_merger(0, 0, f64::INFINITY, largest);
+    let merged = chi2_count_merger(0, 0, 0, f64::INFINITY, &[], largest);
     assert_eq!(merged, Ok(CountMerge::Merged(u32::MAX)));
 }
 
@@ -173,12 +176,12 @@ fn no_invalid_density_is_taken_and_none_hides_an_earlier_one() {
         for &faulty in &invalid {
             for child in 0..4 {
                 let mut densities = [0.0, -0.0, f64::MAX, 5e-324];
-                assert!(chi2_density_merger(0, m, t, densities).is_ok());
+                assert!(chi2_density_merger(0, 0, m, t, &[], densities).is_ok());
                 densities[child] = faulty;
-                let alone = chi2_density_merger(0, m, t, densities);
+                let alone = chi2_density_merger(0, 0, m, t, &[], densities);
                 assert_eq!(alone, refusal(9, child), "{densities:?}");
                 densities[child..].fill(faulty);
-                let first = chi2_density_merger(0, m, t, densities);
+                let first = chi2_density_merger(0, 0, m, t, &[], densities);
                 assert_eq!(first, refusal(9, child), "{densities:?}");
             }
         }

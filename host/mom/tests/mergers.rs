@@ -44,14 +44,14 @@ fn next_up(x: f64) -> f64 {
 }
 
 fn kept_counts(p: u8, m: u8, t: f64, counts: [u32; 4]) -> f64 {
-    match chi2_count_merger(p, m, t, counts) {
+    match chi2_count_merger(p, 0, m, t, &[], counts) {
         Ok(CountMerge::Kept(chi)) => chi,
         other => panic!("{p} {m} {t} {counts:?}: {other:?}"),
     }
 }
 
 fn kept_densities(p: u8, m: u8, t: f64, densities: [f64; 4]) -> f64 {
-    match chi2_density_merger(p, m, t, densities) {
+    match chi2_density_merger(p, 0, m, t, &[], densities) {
         Ok(DensityMerge::Kept(chi)) => chi,
         other => panic!("{p} {m} {t} {densities:?}: {other:?}"),
     }
@@ -89,7 +89,11 @@ fn no_count_is_merged_but_below_t_and_no_chi_is_another() {
             assert_eq!(kept.to_bits(), chi.to_bits(), "{counts:?} {m}");
         }
         for (p, m, t) in [(0, 0, next_up(chi)), (28, 28, f64::INFINITY)] {
-            assert_eq!(chi2_count_merger(p, m, t, counts), merged, "{counts:?} {t}");
+            assert_eq!(
+                chi2_count_merger(p, 0, m, t, &[], counts),
+                merged,
+                "{counts:?} {t}"
+            );
         }
     }
 }
@@ -116,7 +120,7 @@ fn no_threshold_keeps_four_blanks_from_m_on() {
     for t in THRESHOLDS {
         for p in 0..=28 {
             for m in 0..=29 {
-                let answer = chi2_count_merger(p, m, t, [0; 4]);
+                let answer = chi2_count_merger(p, 0, m, t, &[], [0; 4]);
                 if p >= m {
                     assert_eq!(answer, Ok(CountMerge::Merged(0)), "{p} {m} {t}");
                 } else {
@@ -133,7 +137,7 @@ fn no_threshold_keeps_four_blanks_from_m_on() {
 fn no_nan_is_taken_for_any_threshold() {
     for t in [f64::NAN, -f64::NAN] {
         for m in [0, 1, 29] {
-            let answer = chi2_count_merger(0, m, t, [0; 4]);
+            let answer = chi2_count_merger(0, 0, m, t, &[], [0; 4]);
             assert_eq!(answer, Err(Refusal::InvalidThresholdOrFactor), "{m}");
         }
     }
@@ -153,7 +157,7 @@ fn no_four_are_blank_but_four_of_0() {
                 false => CountMerge::Kept(chi),
             };
             assert_eq!(
-                chi2_count_merger(0, 0, t, counts),
+                chi2_count_merger(0, 0, 0, t, &[], counts),
                 Ok(expected),
                 "{t} {counts:?}"
             );
@@ -161,7 +165,7 @@ fn no_four_are_blank_but_four_of_0() {
         for child in 0..4 {
             let mut counts = [0; 4];
             counts[child] = 1;
-            let merged = chi2_count_merger(0, 0, t, counts) == Ok(CountMerge::Merged(1));
+            let merged = chi2_count_merger(0, 0, 0, t, &[], counts) == Ok(CountMerge::Merged(1));
             assert_eq!(merged, t > 1.0, "{t} {counts:?}");
         }
     }
@@ -178,7 +182,7 @@ fn no_four_densities_of_0_are_taken_for_blank_sky() {
                 false => DensityMerge::Kept(chi),
             };
             assert_eq!(
-                chi2_density_merger(p, 0, t, [0.0; 4]),
+                chi2_density_merger(p, 0, 0, t, &[], [0.0; 4]),
                 Ok(expected),
                 "{p} {t}"
             );
@@ -205,7 +209,7 @@ fn no_density_is_merged_but_below_t_and_no_chi_is_another() {
             }
             kept_densities(p, 0, chi, densities);
             let density = sum(densities) / 4.0;
-            match chi2_density_merger(p, p, next_up(chi), densities) {
+            match chi2_density_merger(p, 0, p, next_up(chi), &[], densities) {
                 Ok(DensityMerge::Merged(m)) if m.to_bits() == density.to_bits() => {}
                 other => panic!("{p} {densities:?} {density}: {other:?}"),
             }
@@ -215,7 +219,7 @@ fn no_density_is_merged_but_below_t_and_no_chi_is_another() {
 
 #[test]
 fn no_case_of_the_scope_is_missed() {
-    let merge = |t, counts| chi2_count_merger(0, 0, t, counts).unwrap();
+    let merge = |t, counts| chi2_count_merger(0, 0, 0, t, &[], counts).unwrap();
     assert_eq!(merge(3.0, [1, 2, 4, 4]), CountMerge::Kept(3.0));
     assert_eq!(merge(3.5, [1, 2, 4, 4]), CountMerge::Merged(11));
     assert_eq!(merge(5.0, [0, 0, 0, 5]), CountMerge::Kept(5.0));
@@ -224,7 +228,7 @@ fn no_case_of_the_scope_is_missed() {
     // Note 4.
     assert_eq!(merge(0.0, [0, 0, 0, 0]), CountMerge::Merged(0));
     assert_eq!(merge(-1.0, [0, 0, 0, 0]), CountMerge::Merged(0));
-    let kept = chi2_count_merger(0, 1, 0.0, [0, 0, 0, 0]);
+    let kept = chi2_count_merger(0, 0, 1, 0.0, &[], [0, 0, 0, 0]);
     assert_eq!(kept, Ok(CountMerge::Kept(0.0)));
 }
 
@@ -250,11 +254,11 @@ fn no_sum_past_the_largest_f64_is_merged() {
 
 #[test]
 fn no_minus_zero_is_refused_or_lost() {
-    match chi2_density_merger(0, 0, 0.0, [-0.0; 4]) {
+    match chi2_density_merger(0, 0, 0, 0.0, &[], [-0.0; 4]) {
         Ok(DensityMerge::Merged(m)) => assert_eq!(m.to_bits(), (-0.0f64).to_bits()),
         other => panic!("{other:?}"),
     }
-    match chi2_density_merger(0, 0, 0.0, [-0.0, -0.0, 0.0, -0.0]) {
+    match chi2_density_merger(0, 0, 0, 0.0, &[], [-0.0, -0.0, 0.0, -0.0]) {
         Ok(DensityMerge::Merged(m)) => assert_eq!(m.to_bits(), 0),
         other => panic!("{other:?}"),
     }

@@ -17,9 +17,9 @@ fn built(depth: u8, m: u8, t: f64, cells: &[(u32, u32)], cut: usize) -> Vec<Entr
     let (hashes, batch): (Vec<u32>, Vec<u32>) = cells.iter().copied().unzip();
     let (mut zuniqs, mut counts) = (vec![5; cells.len()], vec![5; cells.len()]);
     let (z, c) = (&mut zuniqs, &mut counts);
-    let first = add_counts(depth, m, t, 0, z, c, &hashes[..cut], &batch[..cut]).unwrap();
+    let first = add_counts(depth, m, t, &[], 0, z, c, &hashes[..cut], &batch[..cut]).unwrap();
     let held = first.entries;
-    let added = add_counts(depth, m, t, held, z, c, &hashes[cut..], &batch[cut..]).unwrap();
+    let added = add_counts(depth, m, t, &[], held, z, c, &hashes[cut..], &batch[cut..]).unwrap();
     let Added { entries, total } = added;
     assert_eq!(total, batch.iter().sum::<u32>());
     assert!(zuniqs[entries..].iter().all(|&z| z == 0));
@@ -128,7 +128,17 @@ fn no_merge_is_left_undone_however_far_it_goes() {
             }
         }
         let last = (top << 26) + (1 << 26) - 1;
-        let added = add_counts(13, 0, t, held, &mut zuniqs, &mut counts, &[last], &[total]);
+        let added = add_counts(
+            13,
+            0,
+            t,
+            &[],
+            held,
+            &mut zuniqs,
+            &mut counts,
+            &[last],
+            &[total],
+        );
         let entries = 1;
         assert_eq!(added, Ok(Added { entries, total }));
         assert_eq!((zuniqs[0], counts[0]), (to_zuniq(0, top).unwrap(), total));
@@ -154,7 +164,7 @@ fn no_m_up_to_29_is_refused_and_none_from_13_on_merges() {
     let (mut z, mut n) = ([7; 4], [7; 4]);
     for m in 30..=255 {
         for (t, held) in [(1.0, 0), (f64::NAN, 5)] {
-            let added = add_counts(13, m, t, held, &mut z, &mut n, &[12 << 26], &[1]);
+            let added = add_counts(13, m, t, &[], held, &mut z, &mut n, &[12 << 26], &[1]);
             assert_eq!(added, refusal(2, 0), "{m}");
         }
     }
@@ -171,7 +181,7 @@ fn no_depth_up_to_13_is_refused_and_none_above_is_taken() {
     let (mut z, mut n) = ([7; 2], [7; 2]);
     for depth in 14..=255 {
         for (m, t, held) in [(0, 1.0, 0), (30, f64::NAN, 3)] {
-            let added = add_counts(depth, m, t, held, &mut z, &mut n, &[0], &[1]);
+            let added = add_counts(depth, m, t, &[], held, &mut z, &mut n, &[0], &[1]);
             assert_eq!(added, refusal(1, 0), "{depth}");
         }
     }
@@ -201,14 +211,14 @@ fn no_refusal_touches_a_buffer_or_hides_an_earlier_one() {
         (0, 1.0, 2, &[2, 3, 4], &[8, 0, 0], 11, 0),
     ] {
         let (mut z, mut n) = (zuniqs, counts);
-        let added = add_counts(13, m, t, held, &mut z, &mut n, hashes, batch);
+        let added = add_counts(13, m, t, &[], held, &mut z, &mut n, hashes, batch);
         assert_eq!(added, refusal(number, place), "{m} {t} {held} {hashes:?}");
         assert_eq!((z, n), (zuniqs, counts));
     }
     let (mut z, mut n) = ([1, 3, 5], [u32::MAX, 1, 7]);
-    let added = add_counts(13, 0, 1.0, 2, &mut z, &mut n, &[2, 3], &[0, 0]);
+    let added = add_counts(13, 0, 1.0, &[], 2, &mut z, &mut n, &[2, 3], &[0, 0]);
     assert_eq!(added, refusal(10, 0));
-    let added = add_counts(13, 0, 1.0, 0, &mut z, &mut n[..2], &[2], &[0]);
+    let added = add_counts(13, 0, 1.0, &[], 0, &mut z, &mut n[..2], &[2], &[0]);
     assert_eq!(added, refusal(4, 0));
     assert_eq!((z, n), ([1, 3, 5], [u32::MAX, 1, 7]));
 }
@@ -217,7 +227,7 @@ fn no_refusal_touches_a_buffer_or_hides_an_earlier_one() {
 #[test]
 fn no_total_that_is_a_u32_is_refused() {
     let (mut z, mut n) = ([1, 3, 5], [u32::MAX - 2, 1, 7]);
-    let added = add_counts(13, 0, 1.0, 2, &mut z, &mut n, &[2], &[1]);
+    let added = add_counts(13, 0, 1.0, &[], 2, &mut z, &mut n, &[2], &[1]);
     let (entries, total) = (3, u32::MAX);
     assert_eq!(added, Ok(Added { entries, total }));
     assert_eq!((z, n), ([1, 3, 5], [u32::MAX - 2, 1, 1]));
@@ -246,10 +256,10 @@ fn no_cell_is_merged_otherwise_than_in_a_wide_map() {
             ] {
                 let batch: Vec<u32> = counts(from % 5, every).take(hashes.len()).collect();
                 let (mut z, mut c) = (vec![7; 70], vec![7; 70]);
-                let ours = add_counts(depth, m, t, 0, &mut z, &mut c, &hashes, &batch);
+                let ours = add_counts(depth, m, t, &[], 0, &mut z, &mut c, &hashes, &batch);
                 let (mut wide_z, mut wide_c) = (vec![7; 70], vec![7; 70]);
                 let (wz, wc) = (&mut wide_z, &mut wide_c);
-                let theirs = mom::add_counts(depth, m, t, 0, wz, wc, &of_wide, &batch);
+                let theirs = mom::add_counts(depth, m, t, &[], 0, wz, wc, &of_wide, &batch);
                 assert_eq!(ours, theirs, "{depth} {from} {m} {t}");
                 let z: Vec<u64> = z.iter().map(|&z| (z as u64) << 32).collect();
                 assert_eq!((z, c), (wide_z, wide_c), "{depth} {from} {m} {t}");

@@ -35,7 +35,7 @@ impl Owned {
 /// The pool into so many places. The rest is 0, and the total is that of the entries.
 fn pooled(l: &Owned, r: &Owned, m: u8, t: f64, places: usize) -> Result<Vec<Entry>, Refusal> {
     let (mut zuniqs, mut counts) = (vec![5; places], vec![5; places]);
-    let answer = pool(l.lent(), r.lent(), m, t, &mut zuniqs, &mut counts);
+    let answer = pool(l.lent(), r.lent(), m, t, &[], &mut zuniqs, &mut counts);
     let Ok(Added { entries, total }) = answer else {
         assert_eq!((zuniqs, counts), (vec![5; places], vec![5; places]));
         return Err(answer.unwrap_err());
@@ -208,7 +208,7 @@ impl Call {
     fn answer(&self) -> Result<Added, Refusal> {
         let (mut zuniqs, mut counts) = (vec![5; self.places[0]], vec![5; self.places[1]]);
         let (left, right) = (self.left.lent(), self.right.lent());
-        let answer = pool(left, right, self.m, self.t, &mut zuniqs, &mut counts);
+        let answer = pool(left, right, self.m, self.t, &[], &mut zuniqs, &mut counts);
         if answer.is_err() {
             assert!(zuniqs.iter().all(|&zuniq| zuniq == 5));
             assert!(counts.iter().all(|&count| count == 5));

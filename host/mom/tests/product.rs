@@ -50,7 +50,7 @@ impl Call {
         let (mut zuniqs, mut densities) = (vec![5; of_zuniqs], vec![5.5; of_densities]);
         let (left, right) = (self.left.lent(), self.right.lent());
         let (z, d) = (&mut zuniqs, &mut densities);
-        let answer = product(left, right, self.m, self.t, self.k, z, d);
+        let answer = product(left, right, self.m, self.t, self.k, &[], z, d);
         let Ok(entries) = answer else {
             assert!(zuniqs.iter().all(|&zuniq| zuniq == 5));
             assert!(densities.iter().all(|&density| density == 5.5));

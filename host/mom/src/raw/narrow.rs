@@ -24,6 +24,8 @@ unsafe extern "C" {
         depth: u8,
         depth_threshold: u8,
         chi2_threshold: f64,
+        protected_parents: *const u32,
+        pl: usize,
         held: usize,
         zuniqs: *mut u32,
         zl: usize,
@@ -59,6 +61,7 @@ pub fn add_counts(
     depth: u8,
     depth_threshold: u8,
     chi2_threshold: f64,
+    protected: &[u32],
     held: usize,
     zuniqs: &mut [u32],
     counts: &mut [u32],
@@ -73,6 +76,8 @@ pub fn add_counts(
             depth,
             depth_threshold,
             chi2_threshold,
+            protected.as_ptr(),
+            protected.len(),
             held,
             zuniqs.as_mut_ptr(),
             zuniqs.len(),
@@ -164,12 +169,15 @@ mod tests {
         let (mut zuniqs, mut counts, mut total) = ([1, 3, 7, 9], [1, u32::MAX - 9, 7, 9], 77);
         let (before, nan) = ((zuniqs, counts), f64::NAN);
         let (deep, hash, past) = (13, 4u32, 12 << 26);
+        // (0, 0) and (0, 1), then (0, 0) again.
+        let not_rising: &[u32] = &[1 << 26, 3 << 26, 1 << 26];
         for (depth, m, t, held, hashes, batch, number, place) in [
             (14, 30, nan, 5, &[hash][..], &[1][..], 1, 0),
             (29, 0, 1.0, 0, &[hash], &[1], 1, 0),
             (0, 30, nan, 5, &[12], &[1], 2, 0),
             (deep, 30, nan, 5, &[hash], &[1], 2, 0),
             (deep, 29, nan, 5, &[hash], &[1], 3, 0),
+            (deep, 29, 1.0, 5, &[hash], &[1], 15, 2),
             (deep, 29, 1.0, 5, &[hash], &[1], 4, 0),
             (deep, 29, 1.0, 2, &[hash], &[], 4, 0),
             (12, 0, 1.0, 2, &[0], &[1], 5, 0),
@@ -183,7 +191,11 @@ mod tests {
             (deep, 0, 1.0, 2, &[2, 3, hash], &[8, 0, 0], 11, 0),
         ] {
             let (z, c) = (&mut zuniqs, &mut counts);
-            let word = add_counts(depth, m, t, held, z, c, hashes, batch, &mut total);
+            let list = match number {
+                1 | 2 | 3 | 15 => not_rising,
+                _ => &[],
+            };
+            let word = add_counts(depth, m, t, list, held, z, c, hashes, batch, &mut total);
             assert_eq!(word, refused(number, place), "{hashes:?} {batch:?}");
             assert_eq!(((zuniqs, counts), total), (before, 77));
         }

@@ -2,7 +2,7 @@
 
 use std::ops::Range;
 
-use super::plain::{cell_of, hashes, overlap_test, Cell, Zuniq};
+use super::plain::{cell_of, hashes, overlap_test, Cell, Setting, Zuniq};
 
 pub struct Draw(u64);
 
@@ -12,11 +12,39 @@ pub struct AddCall<Z> {
     pub depth: u8,
     pub m: u8,
     pub t: f64,
+    pub protected: Vec<Z>,
     pub held: usize,
     pub zuniqs: Vec<Z>,
     pub values: usize,
     pub hashes: Vec<Z>,
     pub batch: usize,
+}
+
+impl<Z: Zuniq> AddCall<Z> {
+    pub fn setting(&self) -> Setting<'_, Z> {
+        Setting {
+            m: self.m,
+            t: self.t,
+            protected: &self.protected,
+        }
+    }
+
+    /// The same with no protected parents.
+    pub fn unprotected(&self) -> AddCall<Z> {
+        let protected = vec![];
+        AddCall {
+            protected,
+            ..self.clone()
+        }
+    }
+
+    /// The held entries and the cells, for a call that is accepted.
+    pub fn unmerged(&self) -> Vec<Z> {
+        let cells = self.hashes.iter().map(|hash| hash.number());
+        let cells = cells.map(|hash| zuniq_of(self.depth, hash));
+        let held = self.zuniqs[..self.held].iter().copied();
+        held.chain(cells).collect()
+    }
 }
 
 /// A map of a combining or moving call but for its values, of which only the number is drawn.
@@ -34,6 +62,26 @@ pub struct CombineCall {
     pub m: u8,
     pub t: f64,
     pub k: f64,
+    pub protected: Vec<u64>,
+}
+
+impl CombineCall {
+    pub fn setting(&self) -> Setting<'_, u64> {
+        Setting {
+            m: self.m,
+            t: self.t,
+            protected: &self.protected,
+        }
+    }
+
+    /// The same with no protected parents.
+    pub fn unprotected(&self) -> CombineCall {
+        let protected = vec![];
+        CombineCall {
+            protected,
+            ..self.clone()
+        }
+    }
 }
 
 /// The arguments of a call between rows and byte columns.
@@ -60,6 +108,12 @@ const SKY: u64 = 12 << 58;
 /// (2h + 1) × 4^(K − d), K being the largest depth.
 fn zuniq_of<Z: Zuniq>(depth: u8, hash: u64) -> Z {
     Z::of((2 * hash + 1) << (2 * (Z::MAX_DEPTH - depth)))
+}
+
+/// The cell that stands so many depths over this one, if any.
+fn over<Z: Zuniq>((depth, hash): Cell, up: u8) -> Option<Z> {
+    let is_cell = depth <= Z::MAX_DEPTH && hash < 12 << (2 * depth);
+    (is_cell && up <= depth).then(|| zuniq_of(depth - up, hash >> (2 * up)))
 }
 
 /// The bounds of what a map covers: those where it starts or ends, and not both.
@@ -124,6 +178,60 @@ impl Draw {
 
     pub fn hash<Z: Zuniq>(&mut self) -> Z {
         self.few_bits()
+    }
+
+    /// A merger's parent, mostly with a hash that its depth has.
+    pub fn parent(&mut self) -> Cell {
+        let depth = self.depth::<u64>();
+        let n = 12 << (2 * depth.min(28));
+        let hash = match self.below(8) {
+            0 => n - 1 + self.below(3) as u64,
+            1 => self.few_bits(),
+            2 => self.below(n as usize) as u64,
+            _ => self.below(12) as u64,
+        };
+        (depth, hash)
+    }
+
+    /// Protected parents: often none, else mostly a rising list that names parents of these cells and what
+    /// stands over and beside them.
+    pub fn protected<Z: Zuniq>(&mut self, cells: &[Cell]) -> Vec<Z> {
+        if self.one_in(2) {
+            return vec![];
+        }
+        let few = [1, 2, 8][self.below(3)];
+        let mut list: Vec<Z> = Vec::new();
+        for &cell in cells {
+            if self.one_in(few) {
+                let up = [1, 1, 1, 2, 3, 0][self.below(6)];
+                list.extend(over::<Z>(cell, up));
+            }
+        }
+        if self.one_in(2) {
+            list.extend(self.zuniqs::<Z>());
+        }
+        list.retain(|&zuniq| cell_of(zuniq).is_some());
+        list.sort();
+        list.dedup();
+        if self.one_in(8) {
+            self.spoil_list(&mut list);
+        }
+        list
+    }
+
+    /// With a value that is no zuniq, is there twice, or stands too far to the front.
+    fn spoil_list<Z: Zuniq>(&mut self, list: &mut Vec<Z>) {
+        let place = self.below(list.len() + 1);
+        let Some(&zuniq) = list.get(place) else {
+            list.push(self.few_bits());
+            return;
+        };
+        match self.below(4) {
+            0 => list[place] = self.few_bits(),
+            1 => list[place] = Z::of(zuniq.number() ^ 1 << self.below(8 * Z::SIZE)),
+            2 => list.insert(place, zuniq),
+            _ => list[place..].rotate_right(1),
+        }
     }
 
     pub fn count(&mut self) -> u32 {
@@ -345,12 +453,15 @@ impl Draw {
             0 => self.below(24),
             _ => hashes.len() + self.below(3),
         };
+        let mut cells: Vec<Cell> = hashes.iter().map(|&h| (depth, h.number())).collect();
+        cells.extend(zuniqs.iter().filter_map(|&z| cell_of(z)));
         zuniqs.extend((0..free).map(|_| Z::of(77)));
         let differ = |wrong: bool, n: usize| if wrong { n + 1 } else { n };
         AddCall {
             depth,
             m: self.depth_threshold(),
             t: self.chi2_threshold(),
+            protected: self.protected(&cells),
             held: if self.one_in(8) {
                 held
             } else {
@@ -425,8 +536,12 @@ impl Draw {
     /// Two maps round one way, so that entries of each lie in entries of the other.
     pub fn combine_call(&mut self) -> CombineCall {
         let way = self.below(12 << 58) as u64;
+        let sides = [self.combined(way), self.combined(way)];
+        let entries = sides.iter().flat_map(|side| &side.zuniqs);
+        let cells: Vec<Cell> = entries.filter_map(|&z| cell_of(z)).collect();
         CombineCall {
-            sides: [self.combined(way), self.combined(way)],
+            protected: self.protected(&cells),
+            sides,
             m: self.depth_threshold(),
             // Split counts are large and so is their chi.
             t: if self.one_in(3) {

@@ -20,7 +20,7 @@ use std::{
 
 use draw::{AddCall, Draw, Side};
 use mom::{rows, CountMerge, DensityMerge, Map, MapCheck, Refusal};
-use plain::Zuniq;
+use plain::{Setting, Zuniq};
 
 /// Rounds with one seed, the same in every run; how many there are in the time is printed.
 fn rounds(name: &str, mut round: impl FnMut(&mut Draw)) {
@@ -100,37 +100,71 @@ fn mergers() {
     let bits = |x: f64| if x.is_nan() { None } else { Some(x.to_bits()) };
     // Blank sky at a T that its chi is not below, from M on and below M.
     let (mut merged, mut kept) = (0, 0);
+    // Blank sky merged under a protected parent, and counts and densities that only the list keeps.
+    let (mut blank, mut listed) = (0, [0; 2]);
+    let (mut of_counts, mut of_densities) = (Met::default(), Met::default());
     rounds("mergers", |draw| {
-        let (p, m) = (draw.depth::<u64>(), draw.depth::<u64>());
+        let ((p, h), m) = (draw.parent(), draw.depth::<u64>());
         let t = draw.chi2_threshold();
+        let child = (p.saturating_add(1), h.saturating_mul(4));
+        let list = draw.protected(&[child; 4]);
+        let setting = |protected| Setting { m, t, protected };
         let counts = draw.four_counts();
-        let answer = mom::chi2_count_merger(p, m, t, counts).map(|merge| match merge {
+        let answer = mom::chi2_count_merger(p, h, m, t, &list, counts).map(|merge| match merge {
             CountMerge::Merged(count) => (Some(count), None),
             CountMerge::Kept(chi) => (None, bits(chi)),
         });
-        let expected = plain::count_merger(p, m, t, counts).map(|merge| match merge {
-            Ok(count) => (Some(count), None),
-            Err(chi) => (None, bits(chi)),
-        });
-        assert_eq!(answer, expected, "{p} {m} {t} {counts:?}");
+        let expected = |list| {
+            plain::count_merger((p, h), &setting(list), counts).map(|merge| match merge {
+                Ok(count) => (Some(count), None),
+                Err(chi) => (None, bits(chi)),
+            })
+        };
+        of_counts.add(&answer);
+        assert_eq!(
+            answer,
+            expected(&list),
+            "({p}, {h}) {m} {t} {list:?} {counts:?}"
+        );
         if counts == [0; 4] && t <= 0.0 {
             merged += (answer == Ok((Some(0), None))) as usize;
             kept += (answer == Ok((None, Some(0)))) as usize;
         }
+        let is_listed = answer.is_ok() && list.contains(&plain::encode(p, h).unwrap());
+        blank += (is_listed && answer == Ok((Some(0), None))) as usize;
+        listed[0] += (answer.is_ok() && answer != expected(&[])) as usize;
 
         let densities = [(); 4].map(|_| draw.density());
-        let answer = mom::chi2_density_merger(p, m, t, densities).map(|merge| match merge {
+        let answer = mom::chi2_density_merger(p, h, m, t, &list, densities);
+        let answer = answer.map(|merge| match merge {
             DensityMerge::Merged(density) => (true, bits(density)),
             DensityMerge::Kept(chi) => (false, bits(chi)),
         });
-        let expected = plain::density_merger(p, m, t, densities).map(|merge| match merge {
-            Ok(density) => (true, bits(density)),
-            Err(chi) => (false, bits(chi)),
-        });
-        assert_eq!(answer, expected, "{p} {m} {t} {densities:?}");
+        let expected = |list| {
+            plain::density_merger((p, h), &setting(list), densities).map(|merge| match merge {
+                Ok(density) => (true, bits(density)),
+                Err(chi) => (false, bits(chi)),
+            })
+        };
+        of_densities.add(&answer);
+        assert_eq!(
+            answer,
+            expected(&list),
+            "({p}, {h}) {m} {t} {list:?} {densities:?}"
+        );
+        listed[1] += (answer.is_ok() && answer != expected(&[])) as usize;
     });
     assert_some("mergers", "blank sky merged", merged);
     assert_some("mergers", "blank sky kept", kept);
+    assert_some(
+        "mergers",
+        "blank sky merged under a protected parent",
+        blank,
+    );
+    assert_some("mergers", "counts kept by the list", listed[0]);
+    assert_some("mergers", "densities kept by the list", listed[1]);
+    of_counts.assert_all(&[0, 1, 2, 3, 7, 10, 15]);
+    of_densities.assert_all(&[0, 1, 2, 3, 7, 9, 15]);
 }
 
 type Answer<T> = Result<T, Refusal>;
@@ -282,38 +316,75 @@ impl BlankSky {
     }
 }
 
+/// Accepted calls whose list keeps apart what would be merged, and those that merge the children of a
+/// protected parent, as only blank sky may be.
+#[derive(Default)]
+struct Protected {
+    kept: usize,
+    merged: usize,
+}
+
+impl Protected {
+    /// By the list, the zuniqs before and after merging, and those after merging with no list.
+    fn add<Z: Zuniq>(&mut self, list: &[Z], before: &[Z], after: &[Z], unprotected: &[Z]) {
+        self.kept += (after != unprotected) as usize;
+        let is_merged = |zuniq: &Z| list.contains(zuniq) && !before.contains(zuniq);
+        self.merged += after.iter().any(is_merged) as usize;
+    }
+
+    fn assert_counts(self, name: &str) {
+        assert_some(name, "counts kept by the list", self.kept);
+        assert_some(name, "blank sky merged against the list", self.merged);
+    }
+
+    fn assert_densities(self, name: &str) {
+        assert_some(name, "densities kept by the list", self.kept);
+        assert_eq!(self.merged, 0, "{name}: densities merged against the list");
+    }
+}
+
 #[test]
 fn adding() {
     let (mut counts, mut densities) = (Met::default(), Met::default());
     let (mut base_cells, mut blank_sky) = (BaseCells::default(), BlankSky::default());
+    let (mut of_counts, mut of_densities) = (Protected::default(), Protected::default());
     rounds("adding", |draw| {
         let call = draw.add_call();
+        let (list, unprotected) = (&call.protected, call.unprotected());
         let [mut n, batch] = draw.add_counts(&call);
         let mut z = call.zuniqs.clone();
         let expected = plain::add_counts(&call, &z, &n, &batch);
+        let (_, with_no_list, _) = plain::add_counts(&unprotected, &z, &n, &batch);
         let (d, m, t, held) = (call.depth, call.m, call.t, call.held);
-        let answer = mom::add_counts(d, m, t, held, &mut z, &mut n, &call.hashes, &batch)
+        let answer = mom::add_counts(d, m, t, list, held, &mut z, &mut n, &call.hashes, &batch)
             .map(|added| (added.entries, added.total));
         counts.add(&answer);
         base_cells.add(&call, answer.is_ok());
         if let Ok((entries, _)) = answer {
             blank_sky.add(&call, &z[..entries], &n[..entries]);
+            of_counts.add(list, &call.unmerged(), &z, &with_no_list);
         }
         assert_eq!((answer, z, n), expected, "{call:?} {batch:?}");
 
         let (mut z, mut x) = (call.zuniqs.clone(), draw.densities_of(call.values));
         let batch = draw.densities_of(call.batch);
         let expected = plain::add_densities(&call, &z, &x, &batch);
-        let answer = mom::add_densities(d, m, t, held, &mut z, &mut x, &call.hashes, &batch);
+        let (_, with_no_list, _) = plain::add_densities(&unprotected, &z, &x, &batch);
+        let answer = mom::add_densities(d, m, t, list, held, &mut z, &mut x, &call.hashes, &batch);
         densities.add(&answer);
         base_cells.add(&call, answer.is_ok());
+        if answer.is_ok() {
+            of_densities.add(list, &call.unmerged(), &z, &with_no_list);
+        }
         assert_eq!((answer, z), (expected.0, expected.1), "{call:?} {batch:?}");
         assert_eq!(bits(&x), bits(&expected.2), "{call:?} {batch:?}");
     });
     base_cells.assert_some("adding");
     blank_sky.assert_some("adding");
-    counts.assert_all(&[0, 1, 2, 3, 4, 5, 7, 8, 10, 11]);
-    densities.assert_all(&[0, 1, 2, 3, 4, 5, 6, 7, 8, 9, 11]);
+    of_counts.assert_counts("adding");
+    of_densities.assert_densities("adding");
+    counts.assert_all(&[0, 1, 2, 3, 4, 5, 7, 8, 10, 11, 15]);
+    densities.assert_all(&[0, 1, 2, 3, 4, 5, 6, 7, 8, 9, 11, 15]);
 }
 
 fn map<'a, V>(side: &'a Side<u64>, values: &'a [V]) -> Map<'a, V> {
@@ -325,36 +396,39 @@ fn map<'a, V>(side: &'a Side<u64>, values: &'a [V]) -> Map<'a, V> {
 }
 
 /// Whether an entry of count 0 is no cell of the overlay, so that it was merged.
-fn merges_blanks(overlay: &[plain::Part], zuniqs: &[u64], counts: &[u32]) -> bool {
-    let is_part = |zuniq| {
-        overlay
-            .iter()
-            .any(|part| plain::cell_of(zuniq) == Some(part.0))
-    };
+fn merges_blanks(overlay: &[u64], zuniqs: &[u64], counts: &[u32]) -> bool {
     let mut entries = zuniqs.iter().zip(counts);
-    entries.any(|(&zuniq, &count)| count == 0 && !is_part(zuniq))
+    entries.any(|(zuniq, &count)| count == 0 && !overlay.contains(zuniq))
 }
 
 #[test]
 fn combining() {
     let (mut pools, mut products) = (Met::default(), Met::default());
+    let (mut of_counts, mut of_densities) = (Protected::default(), Protected::default());
     // Pools in which blank sky is merged though its chi is not below T.
     let mut blank = 0;
     rounds("combining", |draw| {
         let call = draw.combine_call();
+        let (list, unprotected) = (&call.protected, call.unprotected());
         let (m, t, k) = (call.m, call.t, call.k);
         let overlay = plain::overlay(&call.sides).unwrap_or_default();
+        let zuniq = |&((d, h), _): &plain::Part| plain::encode(d, h).unwrap();
+        let before: Vec<u64> = overlay.iter().map(zuniq).collect();
         let [left, right] = &call.sides;
 
         let [l, r] = draw.pool_counts([left.values, right.values]);
         let (mut z, places) = draw.output(overlay.len());
         let mut n = draw.counts_of(places);
         let expected = plain::pool(&call, [&l, &r], &z, &n);
-        let answer = mom::pool(map(left, &l), map(right, &r), m, t, &mut z, &mut n)
+        let answer = mom::pool(map(left, &l), map(right, &r), m, t, list, &mut z, &mut n)
             .map(|added| (added.entries, added.total));
         pools.add(&answer);
-        if let (Ok((entries, _)), true) = (answer, t <= 0.0) {
-            blank += merges_blanks(&overlay, &z[..entries], &n) as usize;
+        if let Ok((entries, _)) = answer {
+            blank += (t <= 0.0 && merges_blanks(&before, &z[..entries], &n)) as usize;
+        }
+        if answer.is_ok() && !list.is_empty() {
+            let (_, with_no_list, _) = plain::pool(&unprotected, [&l, &r], &z, &n);
+            of_counts.add(list, &before, &z, &with_no_list);
         }
         assert_eq!((answer, z, n), expected, "{call:?} {l:?} {r:?}");
 
@@ -364,13 +438,19 @@ fn combining() {
         let (mut z, places) = draw.output(overlay.iter().filter(both).count());
         let mut x = draw.densities_of(places);
         let expected = plain::product(&call, [&l, &r], &z, &x);
-        let answer = mom::product(map(left, &l), map(right, &r), m, t, k, &mut z, &mut x);
+        let answer = mom::product(map(left, &l), map(right, &r), m, t, k, list, &mut z, &mut x);
         products.add(&answer);
+        if answer.is_ok() && !list.is_empty() {
+            let (_, with_no_list, _) = plain::product(&unprotected, [&l, &r], &z, &x);
+            of_densities.add(list, &before, &z, &with_no_list);
+        }
         let shown = || format!("{call:?} {l:?} {r:?}");
         assert_eq!((answer, z), (expected.0, expected.1), "{}", shown());
         assert_eq!(bits(&x), bits(&expected.2), "{}", shown());
     });
     assert_some("combining", "blank sky merged", blank);
-    pools.assert_all(&[0, 1, 2, 3, 4, 5, 10, 11]);
-    products.assert_all(&[0, 1, 2, 3, 4, 5, 6, 10, 11]);
+    of_counts.assert_counts("combining");
+    of_densities.assert_densities("combining");
+    pools.assert_all(&[0, 1, 2, 3, 4, 5, 10, 11, 15]);
+    products.assert_all(&[0, 1, 2, 3, 4, 5, 6, 10, 11, 15]);
 }

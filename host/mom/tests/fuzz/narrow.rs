@@ -2,7 +2,9 @@
 
 use mom::narrow::{self, rows};
 
-use super::{assert_map, assert_map_of_rows, assert_some, plain, rounds, BaseCells, BlankSky, Met};
+use super::{
+    assert_map, assert_map_of_rows, assert_some, plain, rounds, BaseCells, BlankSky, Met, Protected,
+};
 
 #[test]
 fn cells() {
@@ -77,16 +79,18 @@ fn reading_and_writing_rows() {
 #[test]
 fn adding() {
     let (mut met, mut base_cells) = (Met::default(), BaseCells::default());
-    let mut blank_sky = BlankSky::default();
+    let (mut blank_sky, mut protected) = (BlankSky::default(), Protected::default());
     // Accepted calls at the largest depth, and calls that merge though M is not 0.
     let (mut deepest, mut merging) = (0, 0);
     rounds("narrow adding", |draw| {
         let call = draw.add_call::<u32>();
+        let list = &call.protected;
         let [mut n, batch] = draw.add_counts(&call);
         let mut z = call.zuniqs.clone();
         let expected = plain::add_counts(&call, &z, &n, &batch);
+        let (_, with_no_list, _) = plain::add_counts(&call.unprotected(), &z, &n, &batch);
         let (d, m, t, held) = (call.depth, call.m, call.t, call.held);
-        let answer = narrow::add_counts(d, m, t, held, &mut z, &mut n, &call.hashes, &batch)
+        let answer = narrow::add_counts(d, m, t, list, held, &mut z, &mut n, &call.hashes, &batch)
             .map(|added| (added.entries, added.total));
         met.add(&answer);
         base_cells.add(&call, answer.is_ok());
@@ -94,6 +98,7 @@ fn adding() {
             deepest += (d == narrow::MAX_DEPTH) as usize;
             merging += (m > 0 && entries < held + batch.len()) as usize;
             blank_sky.add(&call, &z[..entries], &n[..entries]);
+            protected.add(list, &call.unmerged(), &z, &with_no_list);
         }
         assert_eq!((answer, z, n), expected, "{call:?} {batch:?}");
     });
@@ -101,5 +106,6 @@ fn adding() {
     assert_some("narrow adding", "merged at an M over 0", merging);
     base_cells.assert_some("narrow adding");
     blank_sky.assert_some("narrow adding");
-    met.assert_all(&[0, 1, 2, 3, 4, 5, 7, 8, 10, 11]);
+    protected.assert_counts("narrow adding");
+    met.assert_all(&[0, 1, 2, 3, 4, 5, 7, 8, 10, 11, 15]);
 }

@@ -117,50 +117,91 @@ fn excess(sum: f64, [a, b, c, d]: [f64; 4]) -> f64 {
     sum - 4.0 * (4.0 / w)
 }
 
-/// The count, or the chi of what is kept. "Four siblings of count 0 now merge at any T, where the parent
-/// depth is at least M." (Request 4.)
-fn merge_counts(p: u8, m: u8, t: f64, counts: [u32; 4]) -> Result<u32, f64> {
-    if p >= m && counts == [0; 4] {
-        return Ok(0);
-    }
-    let [a, b, c, d] = counts.map(f64::from);
-    let chi = excess(((a + b) + c) + d, [a, b, c, d]);
-    if p >= m && chi < t {
-        return Ok(counts.iter().sum());
-    }
-    Err(chi)
+/// What a merger goes by: M, T and the protected parents.
+pub struct Setting<'a, Z> {
+    pub m: u8,
+    pub t: f64,
+    pub protected: &'a [Z],
 }
 
-fn merge_densities(p: u8, m: u8, t: f64, [a, b, c, d]: [f64; 4]) -> Result<f64, f64> {
-    let unit = n(p) as f64 / std::f64::consts::PI;
-    let max = |x: f64| if x > unit { x } else { unit };
-    let sum = ((a + b) + c) + d;
-    let chi = excess(sum, [a, b, c, d].map(max)) / unit;
-    if p >= m && chi < t {
-        return Ok(sum / 4.0);
+impl<Z: Zuniq> Setting<'_, Z> {
+    /// "If parent depth ≥ M and chi < T." "A quad whose parent is listed is kept." (Request 7.)
+    fn merges(&self, (p, h): Cell, chi: f64) -> bool {
+        let is_listed = self.protected.contains(&encode(p, h).unwrap());
+        p >= self.m && chi < self.t && !is_listed
     }
-    Err(chi)
+
+    /// 2, 3 and 15.
+    fn check(&self) -> Answer<()> {
+        refuse_if(self.m > 29, 2, 0)?;
+        refuse_if(self.t.is_nan(), 3, 0)?;
+        self.check_protected()
+    }
+
+    /// "15, a listed value is not a valid zuniq or not above the one before, place its index, tried after
+    /// 3."
+    fn check_protected(&self) -> Answer<()> {
+        for (index, &zuniq) in self.protected.iter().enumerate() {
+            let is_above = index == 0 || self.protected[index - 1] < zuniq;
+            refuse_if(cell_of(zuniq).is_none() || !is_above, 15, index)?;
+        }
+        Ok(())
+    }
+
+    /// The count, or the chi of what is kept. "Four siblings of count 0 now merge at any T, where the
+    /// parent depth is at least M." (Request 4.) "Though blank quads of Note 4 merge first." (Request 7.)
+    fn merge_counts(&self, parent: Cell, counts: [u32; 4]) -> Result<u32, f64> {
+        if parent.0 >= self.m && counts == [0; 4] {
+            return Ok(0);
+        }
+        let [a, b, c, d] = counts.map(f64::from);
+        let chi = excess(((a + b) + c) + d, [a, b, c, d]);
+        if self.merges(parent, chi) {
+            return Ok(counts.iter().sum());
+        }
+        Err(chi)
+    }
+
+    fn merge_densities(&self, parent: Cell, [a, b, c, d]: [f64; 4]) -> Result<f64, f64> {
+        let unit = n(parent.0) as f64 / std::f64::consts::PI;
+        let max = |x: f64| if x > unit { x } else { unit };
+        let sum = ((a + b) + c) + d;
+        let chi = excess(sum, [a, b, c, d].map(max)) / unit;
+        if self.merges(parent, chi) {
+            return Ok(sum / 4.0);
+        }
+        Err(chi)
+    }
 }
 
-fn setting(p: u8, m: u8, t: f64) -> Answer<()> {
+/// "A merger call now takes the parent's hash too, 7 if out of range." (Request 7.)
+fn check_quad((p, h): Cell, setting: &Setting<u64>) -> Answer<()> {
     refuse_if(p > 28, 1, 0)?;
-    refuse_if(m > 29, 2, 0)?;
-    refuse_if(t.is_nan(), 3, 0)
+    setting.check()?;
+    refuse_if(h >= n(p), 7, 0)
 }
 
-pub fn count_merger(p: u8, m: u8, t: f64, counts: [u32; 4]) -> Answer<Result<u32, f64>> {
-    setting(p, m, t)?;
+pub fn count_merger(
+    parent: Cell,
+    setting: &Setting<u64>,
+    counts: [u32; 4],
+) -> Answer<Result<u32, f64>> {
+    check_quad(parent, setting)?;
     let sum: u64 = counts.iter().map(|&n| n as u64).sum();
     refuse_if(sum > u32::MAX as u64, 10, 0)?;
-    Ok(merge_counts(p, m, t, counts))
+    Ok(setting.merge_counts(parent, counts))
 }
 
-pub fn density_merger(p: u8, m: u8, t: f64, densities: [f64; 4]) -> Answer<Result<f64, f64>> {
-    setting(p, m, t)?;
+pub fn density_merger(
+    parent: Cell,
+    setting: &Setting<u64>,
+    densities: [f64; 4],
+) -> Answer<Result<f64, f64>> {
+    check_quad(parent, setting)?;
     if let Some(child) = densities.iter().position(|&x| invalid(x)) {
         return refused(9, child);
     }
-    Ok(merge_densities(p, m, t, densities))
+    Ok(setting.merge_densities(parent, densities))
 }
 
 // ---- Sections 3 and 6
@@ -229,8 +270,7 @@ pub fn assert_overlapped<Z: Zuniq>(zuniqs: &[Z], query: Z, answer: Answer<Range<
 
 fn check_add<Z: Zuniq>(call: &AddCall<Z>, buffer: usize, batch: usize) -> Answer<()> {
     depth::<Z>(call.depth)?;
-    refuse_if(call.m > 29, 2, 0)?;
-    refuse_if(call.t.is_nan(), 3, 0)?;
+    call.setting().check()?;
     let places = call.zuniqs.len();
     refuse_if(
         places != buffer || call.hashes.len() != batch || call.held > places,
@@ -273,7 +313,7 @@ fn append<V: Copy>(
     entries: &mut Vec<(Cell, V)>,
     cell: Cell,
     value: V,
-    merge: impl Fn(u8, [V; 4]) -> Option<V>,
+    merge: impl Fn(Cell, [V; 4]) -> Option<V>,
 ) {
     entries.push((cell, value));
     while let Some(&[(c0, a), (c1, b), (c2, c), (c3, d)]) = entries.last_chunk() {
@@ -282,11 +322,12 @@ fn append<V: Copy>(
         if depth == 0 || hash % 4 != 0 || !siblings {
             return;
         }
-        let Some(merged) = merge(depth - 1, [a, b, c, d]) else {
+        let parent = (depth - 1, hash / 4);
+        let Some(merged) = merge(parent, [a, b, c, d]) else {
             return;
         };
         entries.truncate(entries.len() - 4);
-        entries.push(((depth - 1, hash / 4), merged));
+        entries.push((parent, merged));
     }
 }
 
@@ -294,7 +335,7 @@ fn build<Z: Zuniq, V: Copy + Default>(
     call: &AddCall<Z>,
     values: &[V],
     batch: &[V],
-    merge: impl Fn(u8, [V; 4]) -> Option<V>,
+    merge: impl Fn(Cell, [V; 4]) -> Option<V>,
 ) -> (Vec<Z>, Vec<V>, usize) {
     let held = call.zuniqs[..call.held].iter().zip(values);
     let mut entries = held.map(|(&z, &v)| (cell_of(z).unwrap(), v)).collect();
@@ -341,7 +382,7 @@ pub fn add_counts<Z: Zuniq>(
     };
     match check() {
         Ok(total) => {
-            let merge = |p, counts| merge_counts(p, call.m, call.t, counts).ok();
+            let merge = |parent, counts| call.setting().merge_counts(parent, counts).ok();
             let (zuniqs, counts, number) = build(call, counts, batch, merge);
             (Ok((number, total)), zuniqs, counts)
         }
@@ -365,7 +406,7 @@ pub fn add_densities(
     };
     match check() {
         Ok(()) => {
-            let merge = |p, densities| merge_densities(p, call.m, call.t, densities).ok();
+            let merge = |parent, four| call.setting().merge_densities(parent, four).ok();
             let (zuniqs, densities, number) = build(call, densities, batch, merge);
             (Ok(number), zuniqs, densities)
         }
@@ -433,11 +474,13 @@ fn ruled<V: Copy>(
     parts.into_iter().filter_map(value).collect()
 }
 
-fn check_settings(call: &CombineCall) -> Answer<()> {
+/// 1, 2, 3 and 15, with a factor for 3.
+fn check_settings(call: &CombineCall, k: f64) -> Answer<()> {
     depth::<u64>(call.sides[0].depth)?;
     depth::<u64>(call.sides[1].depth)?;
     refuse_if(call.m > 29, 2, 0)?;
-    refuse_if(call.t.is_nan(), 3, 0)
+    refuse_if(call.t.is_nan() || invalid(k), 3, 0)?;
+    call.setting().check_protected()
 }
 
 fn check_sides<V>(sides: &[Side<u64>; 2], values: [&[V]; 2], z: &[u64], out: &[V]) -> Answer<()> {
@@ -457,7 +500,7 @@ fn check_sides<V>(sides: &[Side<u64>; 2], values: [&[V]; 2], z: &[u64], out: &[V
 fn merged<V: Copy + Default>(
     cells: &[(Cell, V)],
     places: usize,
-    merge: impl Fn(u8, [V; 4]) -> Option<V>,
+    merge: impl Fn(Cell, [V; 4]) -> Option<V>,
 ) -> (Vec<u64>, Vec<V>, usize) {
     let mut entries = Vec::new();
     for &(cell, value) in cells {
@@ -478,7 +521,7 @@ pub fn pool(
         (alone, None) | (None, alone) => alone,
     };
     let check = || {
-        check_settings(call)?;
+        check_settings(call, 1.0)?;
         check_sides(&call.sides, values, z, counts)?;
         let total: u64 = values.concat().iter().map(|&n| n as u64).sum();
         refuse_if(total > u32::MAX as u64, 10, 0)?;
@@ -488,7 +531,7 @@ pub fn pool(
     };
     match check() {
         Ok((cells, total)) => {
-            let merge = |p, counts| merge_counts(p, call.m, call.t, counts).ok();
+            let merge = |parent, counts| call.setting().merge_counts(parent, counts).ok();
             let (zuniqs, counts, number) = merged(&cells, z.len(), merge);
             (Ok((number, total)), zuniqs, counts)
         }
@@ -503,8 +546,7 @@ pub fn product(
     densities: &[f64],
 ) -> Left<usize, u64, f64> {
     let check = || {
-        check_settings(call)?;
-        refuse_if(invalid(call.k), 3, 0)?;
+        check_settings(call, call.k)?;
         check_sides(&call.sides, values, z, densities)?;
         for side in values {
             if let Some(place) = side.iter().position(|&x| invalid(x)) {
@@ -519,7 +561,7 @@ pub fn product(
     };
     match check() {
         Ok(cells) => {
-            let merge = |p, densities| merge_densities(p, call.m, call.t, densities).ok();
+            let merge = |parent, four| call.setting().merge_densities(parent, four).ok();
             let (zuniqs, densities, number) = merged(&cells, z.len(), merge);
             (Ok(number), zuniqs, densities)
         }
