@@ -371,7 +371,7 @@ fn collapse(
 }
 
 // What becomes of the last four of n counts, the last of which is given.
-pub fn merge_last(
+fn merge_last(
     counts: &[u32],
     n: usize,
     last: u32,

@@ -1,4 +1,4 @@
-// The held map of an add call: rows 1 to 5 of the table of refusals.
+// The held map of an add call: rows 1 to 3, 15, 4 and 5 of the table of refusals.
 ghost use mathlib.Core.Path.{_≡_};
 ghost use Prim.Native.Nat.{_≤_};
 ghost use lib.ListN.{length, take};
@@ -10,6 +10,7 @@ use build::check_lengths;
 use build::check_settings;
 use mom::FirstFault;
 use narrow::first_fault;
+use protection::narrow_list::check_protected;
 use refusal::Check;
 use refusal::Refusal;
 use zuniq::narrow::Decoded32;
@@ -21,13 +22,14 @@ pub(crate) fn check_held(
     depth: u8,
     depth_threshold: u8,
     chi2_threshold: f64,
+    protected: &[u32],
     held: usize,
     zuniqs: &[u32],
     values: usize,
     hashes: usize,
     batch: usize,
 ) -> HeldMap
-    ensures { λ r. ⌜ r ≡ heldOr (heldRefusal 13 depth «depth_threshold» «chi2_threshold» held (length (now (zuniqs .entry))) values (take held (now (zuniqs .entry))) hashes batch) (mapEnd 13 depth (take held (now (zuniqs .entry)))) ⌝ }
+    ensures { λ r. ⌜ r ≡ heldOr (heldRefusal 13 (now (protected .entry)) depth «depth_threshold» «chi2_threshold» held (length (now (zuniqs .entry))) values (take held (now (zuniqs .entry))) hashes batch) (mapEnd 13 depth (take held (now (zuniqs .entry)))) ⌝ }
 {
     if let Check::Refused(refusal) = check_settings(
         Zuniq32::MAX_DEPTH,
@@ -35,6 +37,9 @@ pub(crate) fn check_held(
         depth_threshold,
         chi2_threshold,
     ) {
+        return HeldMap::Refused(refusal);
+    }
+    if let Check::Refused(refusal) = check_protected(protected) {
         return HeldMap::Refused(refusal);
     }
     if let Check::Refused(refusal) = check_lengths(held, zuniqs.len(), values, hashes, batch) {

@@ -1,7 +1,7 @@
 // Adding counts to a narrow map: section 4 of the scope for zuniqs in a u32, note 2 of document 02.
 //
 // The largest depth is 13. Everything else is as in `build_counts`, whose code this is for u32 zuniqs and
-// hashes: the language has no generics. Shared are the merger, the checks of settings, lengths, totals
+// hashes: the language has no generics. Shared are the checks of settings, lengths, totals
 // and space, and the free part of the buffers; definitions and laws are those of `build`, at 13.
 //
 // Refused: a depth over 13 (number 1); M over 29 (2), since note 2 leaves that row alone; then as in
@@ -12,7 +12,8 @@ ghost use Prim.Native.Nat.{_+_, _-_, _≤_, _<_, _%_};
 ghost use lib.ListN.{length, getD, set, take};
 ghost use Rattle.zuniq.specs.Cells.{nHash};
 ghost use Rattle.zuniq.specs.Codec.{IsZuniqOf};
-ghost use Rattle.merger.specs.Merge.{acceptCounts};
+ghost use Rattle.protection.specs.Protected.{RisingList};
+ghost use Rattle.merger.specs.Merge.{mergeCounts, acceptCounts};
 ghost use Rattle.refusal.specs.Checks.{orElse, checkOf};
 ghost use Rattle.build.specs.Map.{entry};
 ghost use Rattle.build.specs.Buffers.{held, held as heldMap, batch as batchOf};
@@ -28,9 +29,8 @@ use build::free::clear_counts;
 use build::free::put_count;
 use build_counts::capped_sum;
 use build_counts::check_total;
-use build_counts::merge_last;
 use merger::CountMerge;
-use merger::merge_counts;
+use merger::merge_narrow_counts;
 use refusal::Check;
 use zuniq::n_hash_unchecked;
 use zuniq::narrow::Zuniq32;
@@ -47,18 +47,20 @@ pub fn add_counts(
     depth: u8,
     depth_threshold: u8,
     chi2_threshold: f64,
+    protected: &[u32],
     held: usize,
     zuniqs: &mut [u32],
     counts: &mut [u32],
     hashes: &[u32],
     batch: &[u32],
 ) -> CountsAdded
-    ensures { λ r. ⌜ (r, now (zuniqs .exit), now (counts .exit)) ≡ addCounts 13 depth «depth_threshold» «chi2_threshold» held (now (zuniqs .entry)) (now (counts .entry)) (now (hashes .entry)) (now (batch .entry)) ⌝ }
+    ensures { λ r. ⌜ (r, now (zuniqs .exit), now (counts .exit)) ≡ addCounts 13 (now (protected .entry)) depth «depth_threshold» «chi2_threshold» held (now (zuniqs .entry)) (now (counts .entry)) (now (hashes .entry)) (now (batch .entry)) ⌝ }
 {
     let checked = check(
         depth,
         depth_threshold,
         chi2_threshold,
+        protected,
         held,
         &zuniqs[..],
         &counts[..],
@@ -77,6 +79,7 @@ pub fn add_counts(
                 batch,
                 depth_threshold,
                 chi2_threshold,
+                protected,
             );
             clear_counts(&mut zuniqs[entries..]);
             clear_counts(&mut counts[entries..]);
@@ -90,18 +93,20 @@ fn check(
     depth: u8,
     depth_threshold: u8,
     chi2_threshold: f64,
+    protected: &[u32],
     held: usize,
     zuniqs: &[u32],
     counts: &[u32],
     hashes: &[u32],
     batch: &[u32],
 ) -> Total
-    ensures { λ r. ⌜ r ≡ totalOr (countsRefusal 13 depth «depth_threshold» «chi2_threshold» held (length (now (zuniqs .entry))) (length (now (counts .entry))) (take held (now (zuniqs .entry))) (take held (now (counts .entry))) (now (hashes .entry)) (now (batch .entry))) (sumOf (take held (now (counts .entry))) + sumOf (now (batch .entry))) ⌝ }
+    ensures { λ r. ⌜ r ≡ totalOr (countsRefusal 13 (now (protected .entry)) depth «depth_threshold» «chi2_threshold» held (length (now (zuniqs .entry))) (length (now (counts .entry))) (take held (now (zuniqs .entry))) (take held (now (counts .entry))) (now (hashes .entry)) (now (batch .entry))) (sumOf (take held (now (counts .entry))) + sumOf (now (batch .entry))) ⌝ }
 {
     match check_held(
         depth,
         depth_threshold,
         chi2_threshold,
+        protected,
         held,
         zuniqs,
         counts.len(),
@@ -155,11 +160,12 @@ fn push_all(
     batch: &[u32],
     depth_threshold: u8,
     chi2_threshold: f64,
+    protected: &[u32],
 ) -> usize
-    requires { ⌜ Stands 13 held (now zuniqs) (now counts) × (depth ≤ 13) × (length (now hashes) ≡ length (now batch)) × (held + length (now hashes) ≤ length (now zuniqs)) × (held + length (now hashes) ≤ length (now counts)) ⌝ }
+    requires { ⌜ Stands 13 held (now zuniqs) (now counts) × (depth ≤ 13) × (length (now hashes) ≡ length (now batch)) × (held + length (now hashes) ≤ length (now zuniqs)) × (held + length (now hashes) ≤ length (now counts)) × RisingList (now protected) ⌝ }
     requires { ⌜ Rising depth (now hashes) ⌝ }
     requires { ⌜ totalOf (heldMap 13 held (now zuniqs) (now counts)) + sumOf (now batch) ≤ 4294967295 ⌝ }
-    ensures { λ r. ⌜ Added (acceptCounts «depth_threshold» «chi2_threshold») 13 held (batchOf depth (now (hashes .entry)) (now (batch .entry))) (now (zuniqs .entry)) (now (counts .entry)) r (now (zuniqs .exit)) (now (counts .exit)) ⌝ }
+    ensures { λ r. ⌜ Added (acceptCounts 13 (now (protected .entry)) «depth_threshold» «chi2_threshold») 13 held (batchOf depth (now (hashes .entry)) (now (batch .entry))) (now (zuniqs .entry)) (now (counts .entry)) r (now (zuniqs .exit)) (now (counts .exit)) ⌝ }
 {
     let mut n = held;
     let mut i = 0;
@@ -178,6 +184,7 @@ fn push_all(
                 batch[i + 3],
                 depth_threshold,
                 chi2_threshold,
+                protected,
             );
             i += 4;
         } else {
@@ -191,6 +198,7 @@ fn push_all(
                 batch[i],
                 depth_threshold,
                 chi2_threshold,
+                protected,
             );
             i += 1;
         }
@@ -212,17 +220,19 @@ fn push_siblings(
     n3: u32,
     depth_threshold: u8,
     chi2_threshold: f64,
+    protected: &[u32],
 ) -> usize
-    requires { ⌜ Stands 13 n (now zuniqs) (now counts) × (n + 4 ≤ length (now zuniqs)) × (n + 4 ≤ length (now counts)) × (0 < depth) × (depth ≤ 13) × (hash + 3 < nHash depth) × (hash % 4 ≡ 0) × (n0 + n1 + n2 + n3 + totalOf (held 13 n (now zuniqs) (now counts)) ≤ 4294967295) ⌝ }
-    ensures { λ r. ⌜ Added (acceptCounts «depth_threshold» «chi2_threshold») 13 n (siblings depth hash n0 n1 n2 n3) (now (zuniqs .entry)) (now (counts .entry)) r (now (zuniqs .exit)) (now (counts .exit)) ⌝ }
+    requires { ⌜ Stands 13 n (now zuniqs) (now counts) × (n + 4 ≤ length (now zuniqs)) × (n + 4 ≤ length (now counts)) × (0 < depth) × (depth ≤ 13) × (hash + 3 < nHash depth) × (hash % 4 ≡ 0) × (n0 + n1 + n2 + n3 + totalOf (held 13 n (now zuniqs) (now counts)) ≤ 4294967295) × RisingList (now protected) ⌝ }
+    ensures { λ r. ⌜ Added (acceptCounts 13 (now (protected .entry)) «depth_threshold» «chi2_threshold») 13 n (siblings depth hash n0 n1 n2 n3) (now (zuniqs .entry)) (now (counts .entry)) r (now (zuniqs .exit)) (now (counts .exit)) ⌝ }
 {
     let parent_depth = depth - 1;
     let parent_hash = hash / 4;
-    let CountMerge::Merged(count) = merge_counts(
+    let CountMerge::Merged(count) = merge_narrow_counts(
         parent_depth,
-        parent_hash as u64,
+        parent_hash,
         depth_threshold,
         chi2_threshold,
+        protected,
         n0,
         n1,
         n2,
@@ -245,6 +255,7 @@ fn push_siblings(
         count,
         depth_threshold,
         chi2_threshold,
+        protected,
     )
 }
 
@@ -285,9 +296,10 @@ fn push(
     count: u32,
     depth_threshold: u8,
     chi2_threshold: f64,
+    protected: &[u32],
 ) -> usize
-    requires { ⌜ Stands 13 n (now zuniqs) (now counts) × (n < length (now zuniqs)) × (n < length (now counts)) × IsZuniqOf 13 zuniq depth hash × (count + totalOf (held 13 n (now zuniqs) (now counts)) ≤ 4294967295) ⌝ }
-    ensures { λ r. ⌜ Pushed (acceptCounts «depth_threshold» «chi2_threshold») 13 n (entry depth hash count) (now (zuniqs .entry)) (now (counts .entry)) r (now (zuniqs .exit)) (now (counts .exit)) ⌝ }
+    requires { ⌜ Stands 13 n (now zuniqs) (now counts) × (n < length (now zuniqs)) × (n < length (now counts)) × IsZuniqOf 13 zuniq depth hash × (count + totalOf (held 13 n (now zuniqs) (now counts)) ≤ 4294967295) × RisingList (now protected) ⌝ }
+    ensures { λ r. ⌜ Pushed (acceptCounts 13 (now (protected .entry)) «depth_threshold» «chi2_threshold») 13 n (entry depth hash count) (now (zuniqs .entry)) (now (counts .entry)) r (now (zuniqs .exit)) (now (counts .exit)) ⌝ }
 {
     append(zuniqs, counts, n, zuniq, count);
     // Most cells are no fourth child: for them that is all.
@@ -303,6 +315,7 @@ fn push(
         count,
         depth_threshold,
         chi2_threshold,
+        protected,
     )
 }
 
@@ -328,9 +341,10 @@ fn collapse(
     last_count: u32,
     depth_threshold: u8,
     chi2_threshold: f64,
+    protected: &[u32],
 ) -> usize
-    requires { ⌜ (0 < len) × Stands 13 len (now zuniqs) (now counts) × IsZuniqOf 13 (getD (now zuniqs) (len - 1) 0) «last_depth» «last_hash» × (getD (now counts) (len - 1) 0 ≡ «last_count») × (totalOf (held 13 len (now zuniqs) (now counts)) ≤ 4294967295) ⌝ }
-    ensures { λ r. ⌜ Collapsed (acceptCounts «depth_threshold» «chi2_threshold») 13 len (now (zuniqs .entry)) (now (counts .entry)) r (now (zuniqs .exit)) (now (counts .exit)) ⌝ }
+    requires { ⌜ (0 < len) × Stands 13 len (now zuniqs) (now counts) × IsZuniqOf 13 (getD (now zuniqs) (len - 1) 0) «last_depth» «last_hash» × (getD (now counts) (len - 1) 0 ≡ «last_count») × (totalOf (held 13 len (now zuniqs) (now counts)) ≤ 4294967295) × RisingList (now protected) ⌝ }
+    ensures { λ r. ⌜ Collapsed (acceptCounts 13 (now (protected .entry)) «depth_threshold» «chi2_threshold») 13 len (now (zuniqs .entry)) (now (counts .entry)) r (now (zuniqs .exit)) (now (counts .exit)) ⌝ }
 {
     let mut n = len;
     let mut depth = last_depth;
@@ -347,9 +361,10 @@ fn collapse(
             n,
             count,
             depth,
-            hash as u64,
+            hash,
             depth_threshold,
             chi2_threshold,
+            protected,
         ) else {
             return n;
         };
@@ -360,6 +375,33 @@ fn collapse(
         n = first + 1;
     }
     n
+}
+
+// What becomes of the last four of n counts, the last of which is given.
+fn merge_last(
+    counts: &[u32],
+    n: usize,
+    last: u32,
+    parent_depth: u8,
+    parent_hash: u32,
+    depth_threshold: u8,
+    chi2_threshold: f64,
+    protected: &[u32],
+) -> CountMerge
+    requires { ⌜ (4 ≤ n) × (n ≤ length (now counts)) × (getD (now counts) (n - 4) 0 + getD (now counts) (n - 3) 0 + getD (now counts) (n - 2) 0 + last ≤ 4294967295) × («parent_depth» ≤ 13) × («parent_hash» < nHash «parent_depth») × RisingList (now protected) ⌝ }
+    ensures { λ r. ⌜ r ≡ mergeCounts 13 (now (protected .entry)) «depth_threshold» «chi2_threshold» «parent_depth» «parent_hash» (getD (now (counts .entry)) (n - 4) 0) (getD (now (counts .entry)) (n - 3) 0) (getD (now (counts .entry)) (n - 2) 0) last ⌝ }
+{
+    merge_narrow_counts(
+        parent_depth,
+        parent_hash,
+        depth_threshold,
+        chi2_threshold,
+        protected,
+        counts[n - 4],
+        counts[n - 3],
+        counts[n - 2],
+        last,
+    )
 }
 
 // Rows 7 and 8 for all cells of a batch.

@@ -16,12 +16,12 @@ use Rattle.narrow_counts.proofs.add_counts.Tie as tie
 
 -- ---- what is checked
 abbrev start : tie.After-check → tie.Start
-start c = c .before .before .before .before .before .before .before
+start c = c .before .before .before .before .before .before .before .before
 
 abbrev fault : tie.Start → Option Refusal
 fault s =
     let a = s .args in
-    countsRefusal 13 (a .depth) (a .depth-threshold) (a .chi2-threshold) (a .held) (length (a .zuniqs .now)) (length (a .counts .now)) (take (a .held) (a .zuniqs .now)) (take (a .held) (a .counts .now)) (a .hashes .now) (a .batch .now)
+    countsRefusal 13 (a .protected .now) (a .depth) (a .depth-threshold) (a .chi2-threshold) (a .held) (length (a .zuniqs .now)) (length (a .counts .now)) (take (a .held) (a .zuniqs .now)) (take (a .held) (a .counts .now)) (a .hashes .now) (a .batch .now)
 
 abbrev sum : tie.Start → ℕ
 sum s = sumOf (take (s .args .held) (s .args .counts .now)) + sumOf (s .args .batch .now)
@@ -44,9 +44,9 @@ push-all-requires c κs =
     let k = c .before .before .before in
     let a = start (k .before .before) .args in
     let g =
-    counts-accepted 13 (a .depth) (a .depth-threshold) (a .chi2-threshold) (a .held) (length (a .zuniqs .now)) (length (a .counts .now)) (take (a .held) (a .zuniqs .now)) (take (a .held) (a .counts .now)) (a .hashes .now) (a .batch .now) (passed k .0) in
+    counts-accepted 13 (a .protected .now) (a .depth) (a .depth-threshold) (a .chi2-threshold) (a .held) (length (a .zuniqs .now)) (length (a .counts .now)) (take (a .held) (a .zuniqs .now)) (take (a .held) (a .counts .now)) (a .hashes .now) (a .batch .now) (passed k .0) in
     let p = may-push {zs = a .zuniqs .now} {vs = a .counts .now} (g .0) in
-    (p .0, (p .1, omega (arith, g .1, held-total 13 (a .held) (a .zuniqs .now) (a .counts .now) (p .0 .0))))
+    ((p .0 .0, p .0 .1, p .0 .2, p .0 .3, p .0 .4, g .2), (p .1, omega (arith, g .1, held-total 13 (a .held) (a .zuniqs .now) (a .counts .now) (p .0 .0))))
 
 mul-clear-counts : tie.Need-mul-clear-counts
 mul-clear-counts c = search needs
@@ -64,7 +64,7 @@ clear-counts-requires : tie.Need-clear-counts-requires
 clear-counts-requires c κs = search needs
 
 mul-clear-counts-2 : tie.Need-mul-clear-counts-2
-mul-clear-counts-2 c = search needs
+mul-clear-counts-2 c = record { fits = omega (arith, mul-clear-counts (c .before .before .before .before)) }
 
 sub-clear-counts-2 : tie.Need-sub-clear-counts-2
 sub-clear-counts-2 c = search needs
@@ -106,7 +106,7 @@ returns-2 c =
     let w = p .ensures in
     let zs = cleared (p .result) (p .last .0) _ 0 (w .stands .zuniqs) (c .before .before .before .before .before .before .clear-counts .ensures) in
     let vs = cleared (p .result) (p .last .1 .0) _ 0 (w .stands .values) (c .before .before .clear-counts2 .ensures) in
-    counts-left 13 (a .depth) (a .depth-threshold) (a .chi2-threshold) (a .held) (a .zuniqs .now) (a .counts .now) (a .hashes .now) (a .batch .now) (passed k .0) (p .result) (k .checked2 .given .0 .0) (p .last .0) (p .last .1 .0) _ _ w
+    counts-left 13 (a .protected .now) (a .depth) (a .depth-threshold) (a .chi2-threshold) (a .held) (a .zuniqs .now) (a .counts .now) (a .hashes .now) (a .batch .now) (passed k .0) (p .result) (k .checked2 .given .0 .0) (p .last .0) (p .last .1 .0) _ _ w
     (p .kept .0) (p .kept .1 .0) zs vs (passed k .1)
 
 pub add-counts-spec : {M : Type 1} → statement M

@@ -7,31 +7,29 @@ use native.Mathlib.Omega.{arith}
 use lib.ListN.{length, getD, length-set}
 use borrow.Author.Needs.{needs}
 use borrow.Author.Tests.{not-true, not-false}
-use Rattle.zuniq.specs.Cells.{nHash}
 use Rattle.merger.specs.Merge.{acceptCounts}
 use Rattle.merger.proofs.Accept.{accept-counts-iff-merged, reject-counts-iff-kept, accepted-count-is-sum}
 use Rattle.build.specs.Stack.{collapse}
 use Rattle.build.specs.Buffers.{held}
 use Rattle.build.specs.Standing.{quadAt, Behind}
 use Rattle.build.specs.Counts.{totalOf}
-use Rattle.build.proofs.Ends.{n-hash-mono}
 use Rattle.build.proofs.Places.{behind-set, behind-same, behind-trans}
 use Rattle.build.proofs.Collapsing.{Turning, turning-starts, turning-ends, no-quad-ends, kept-ends, four-left, turns, parent-zuniq, four-within, turn-total}
 use Rattle.narrow_counts.proofs.collapse.Statement.{statement}
 use Rattle.narrow_counts.proofs.collapse.Tie as tie
 
 abbrev Inv-loop : tie.InvT-loop
-Inv-loop zuniqs₀ counts₀ len last-depth last-hash last-count depth-threshold chi2-threshold n₀ depth₀ hash₀ count₀ zuniqs counts n depth hash count =
-    let accept = acceptCounts depth-threshold chi2-threshold in
+Inv-loop zuniqs₀ counts₀ len last-depth last-hash last-count depth-threshold chi2-threshold protected n₀ depth₀ hash₀ count₀ zuniqs counts n depth hash count =
+    let accept = acceptCounts 13 protected depth-threshold chi2-threshold in
     (n ≤ len) × (length zuniqs ≡ length zuniqs₀) × (length counts ≡ length counts₀)
     × Turning accept 13 0 (collapse accept (held 13 len zuniqs₀ counts₀)) n depth hash count zuniqs counts × (totalOf (held 13 n zuniqs counts) ≤ 4294967295) × Behind len zuniqs₀ counts₀ zuniqs counts
 
 abbrev μ-loop : tie.MeasureT-loop
-μ-loop zuniqs₀ counts₀ len last-depth last-hash last-count depth-threshold chi2-threshold n₀ depth₀ hash₀ count₀ zuniqs counts n depth hash count = depth
+μ-loop zuniqs₀ counts₀ len last-depth last-hash last-count depth-threshold chi2-threshold protected n₀ depth₀ hash₀ count₀ zuniqs counts n depth hash count = depth
 
 -- ---- a turn
 abbrev start : tie.At-loop Inv-loop μ-loop → tie.Start Inv-loop μ-loop
-start c = c .before .before .before
+start c = c .before .before .before .before
 
 deep : (c : tie.In-loop Inv-loop μ-loop) → 0 < c .before .loop .depth
 deep c = omega (arith, c .loop-test .taken)
@@ -55,16 +53,16 @@ found c = c .before .before .before .before
 
 merged : (c : tie.After-sum Inv-loop μ-loop) → let o = turn (found c) .loop in
     let a = start (turn (found c)) .args in
-    acceptCounts (a .depth-threshold) (a .chi2-threshold) (o .depth - 1) (o .hash / 4) (getD (o .counts) (o .n - 4) 0) (getD (o .counts) (o .n - 3) 0) (getD (o .counts) (o .n - 2) 0) (o .count) ≡ some (c .sum .given .0 .0)
+    acceptCounts 13 (a .protected .now) (a .depth-threshold) (a .chi2-threshold) (o .depth - 1) (o .hash / 4) (getD (o .counts) (o .n - 4) 0) (getD (o .counts) (o .n - 3) 0) (getD (o .counts) (o .n - 2) 0) (o .count) ≡ some (c .sum .given .0 .0)
 merged c =
     let o = turn (found c) .loop in
     let a = start (turn (found c)) .args in
-    accept-counts-iff-merged (a .depth-threshold) (a .chi2-threshold) (o .depth - 1) (o .hash / 4) (getD (o .counts) (o .n - 4) 0) (getD (o .counts) (o .n - 3) 0) (getD (o .counts) (o .n - 2) 0) (o .count) _ .1
+    accept-counts-iff-merged 13 (a .protected .now) (a .depth-threshold) (a .chi2-threshold) (o .depth - 1) (o .hash / 4) (getD (o .counts) (o .n - 4) 0) (getD (o .counts) (o .n - 3) 0) (getD (o .counts) (o .n - 2) 0) (o .count) _ .1
     (sym (c .before .before .merge-last .ensures) ∙ c .sum .given .1)
 
 -- ---- the answers
 loop-holds : tie.Need-loop-holds Inv-loop μ-loop
-loop-holds c = let p = c .before .before .pre in (omega arith, refl, refl, turning-starts (c .before .before .args .len) (p .1) (p .0) (p .2) (p .3), p .4, behind-same _ _ _)
+loop-holds c = let p = c .before .before .before .pre in (omega arith, refl, refl, turning-starts (c .before .before .before .args .len) (p .1) (p .0) (p .2) (p .3), p .4, behind-same _ _ _)
 
 are-siblings-requires : tie.Need-are-siblings-requires Inv-loop μ-loop
 are-siblings-requires c κs = let w = c .before .before .loop .inv .3 in (w .stands .zuniqs, w .top)
@@ -88,17 +86,12 @@ returns c =
 sub-depth : tie.Need-sub-depth Inv-loop μ-loop
 sub-depth c = search needs
 
-cast-merge-last : tie.Need-cast-merge-last Inv-loop μ-loop
-unfolding nHash
-cast-merge-last c =
-    let top = turn (c .before) .loop .inv .3 .top in
-    omega (arith, top .hash, n-hash-mono (turn (c .before) .loop .depth) 13 (top .deep))
-
 merge-last-requires : tie.Need-merge-last-requires Inv-loop μ-loop
 merge-last-requires c κs =
     let o = turn (c .before) .loop in
     let r = room (c .before) in
-    (r .0, r .2, omega (arith, four-within (λ n. n) (o .inv .3) (quad (c .before)), o .inv .4))
+    let p = parent-zuniq (deep (c .before .before .before .before)) (o .inv .3 .top) in
+    (r .0, r .2, omega (arith, four-within (λ n. n) (o .inv .3) (quad (c .before)), o .inv .4), p .deep, p .hash, start (turn (c .before)) .pre .5)
 
 enum-known-sum : tie.Need-enum-known-sum Inv-loop μ-loop
 enum-known-sum c = search needs
@@ -118,7 +111,7 @@ returns-2 c =
     let o = turn e .loop in
     let a = start (turn e) .args in
     let kept =
-    reject-counts-iff-kept (a .depth-threshold) (a .chi2-threshold) (o .depth - 1) (o .hash / 4) (getD (o .counts) (o .n - 4) 0) (getD (o .counts) (o .n - 3) 0) (getD (o .counts) (o .n - 2) 0) (o .count) .1
+    reject-counts-iff-kept 13 (a .protected .now) (a .depth-threshold) (a .chi2-threshold) (o .depth - 1) (o .hash / 4) (getD (o .counts) (o .n - 4) 0) (getD (o .counts) (o .n - 3) 0) (getD (o .counts) (o .n - 2) 0) (o .count) .1
     (_, sym (c .before .before .merge-last .ensures) ∙ c .enum-told .given .1) in
     record { stands = o .inv .3 .stands; least = o .inv .0; is = kept-ends (o .inv .3) (deep (e .before .before .before)) (quad e) kept; behind = o .inv .5 }
 
@@ -160,7 +153,7 @@ loop-again c =
       length-set (o .counts) (o .n - 4) _ ∙ o .inv .2,
       turns (o .inv .3) (deep (e .before .before .before)) z (quad e) m,
       let a = start (turn e) .args in
-          omega (arith, turn-total (λ n. n) (o .inv .3) (quad e) (accepted-count-is-sum (a .depth-threshold) (a .chi2-threshold)) (deep (e .before .before .before)) z m, o .inv .4),
+          omega (arith, turn-total (λ n. n) (o .inv .3) (quad e) (accepted-count-is-sum 13 (a .protected .now) (a .depth-threshold) (a .chi2-threshold)) (deep (e .before .before .before)) z m, o .inv .4),
       behind-trans (behind-set _ (o .n - 4) (o .zuniqs) (o .counts) _ _ (omega (arith, room e, o .inv .0))) (o .inv .5),
     )
 
@@ -185,7 +178,6 @@ collapse-spec =
     same-length-2
     returns
     sub-depth
-    cast-merge-last
     merge-last-requires
     enum-known-sum
     enum-told

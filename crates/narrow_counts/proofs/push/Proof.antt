@@ -7,8 +7,8 @@ use Rattle.narrow_counts.proofs.push.Statement.{statement}
 use Rattle.narrow_counts.proofs.push.Tie as tie
 
 -- ---- the cell is appended
-put : (c : tie.After-append) → let a = c .before .before .before .before .before .args in Stored 13 (a .n) (a .zuniq) (a .depth) (a .hash) (a .count) (a .zuniqs .now) (a .counts .now) (c .append .last .0) (c .append .last .1 .0)
-put c = let p = c .before .before .before .before .before .pre in stored 13 (p .0) (p .1) (p .2) (p .3) (c .append .ensures)
+put : (c : tie.After-append) → let a = c .before .before .before .before .before .before .args in Stored 13 (a .n) (a .zuniq) (a .depth) (a .hash) (a .count) (a .zuniqs .now) (a .counts .now) (c .append .last .0) (c .append .last .1 .0)
+put c = let p = c .before .before .before .before .before .before .pre in stored 13 (p .0) (p .1) (p .2) (p .3) (c .append .ensures)
 
 -- ---- the answers
 append-requires : tie.Need-append-requires
@@ -30,7 +30,10 @@ add-collapse : tie.Need-add-collapse
 add-collapse c = search needs
 
 collapse-requires : tie.Need-collapse-requires
-collapse-requires c κs = let s = put (c .before .before .before .before .before .before .before) in (omega arith, s .stands, s .top, s .value 0, rw (s .map-is) (c .before .before .before .before .before .before .before .before .before .before .before .before .pre .4))
+collapse-requires c κs =
+    let s = put (c .before .before .before .before .before .before .before) in
+    let p = c .before .before .before .before .before .before .before .before .before .before .before .before .before .pre in
+    (omega arith, s .stands, s .top, s .value 0, rw (s .map-is) (p .4), p .5)
 
 same-length-3 : tie.Need-same-length-3
 same-length-3 c = search needs

@@ -17,16 +17,16 @@ use Rattle.narrow_counts.proofs.push_all.Statement.{statement}
 use Rattle.narrow_counts.proofs.push_all.Tie as tie
 
 abbrev Inv-loop : tie.InvT-loop
-Inv-loop zuniqs₀ counts₀ held depth hashes batch depth-threshold chi2-threshold n₀ i₀ zuniqs counts n i =
-    Before (acceptCounts depth-threshold chi2-threshold) 13 depth held hashes batch zuniqs₀ counts₀ i n zuniqs counts
+Inv-loop zuniqs₀ counts₀ held depth hashes batch depth-threshold chi2-threshold protected n₀ i₀ zuniqs counts n i =
+    Before (acceptCounts 13 protected depth-threshold chi2-threshold) 13 depth held hashes batch zuniqs₀ counts₀ i n zuniqs counts
     × (length zuniqs ≡ length zuniqs₀) × (length counts ≡ length counts₀) × (totalOf (heldMap 13 n zuniqs counts) + sumOf (drop i batch) ≤ 4294967295)
 
 abbrev μ-loop : tie.MeasureT-loop
-μ-loop zuniqs₀ counts₀ held depth hashes batch depth-threshold chi2-threshold n₀ i₀ zuniqs counts n i = length hashes - i
+μ-loop zuniqs₀ counts₀ held depth hashes batch depth-threshold chi2-threshold protected n₀ i₀ zuniqs counts n i = length hashes - i
 
 -- ---- a turn
 abbrev start : tie.At-loop Inv-loop μ-loop → tie.Start Inv-loop μ-loop
-start c = c .before .before .before .before .before
+start c = c .before .before .before .before .before .before
 
 cell-left : (c : tie.In-loop Inv-loop μ-loop) → let values = start (c .before) .args .batch .now in (c .before .loop .i < length values) × (4 * length values < 2 ^ 64)
 cell-left c = let s = start (c .before) in (omega (arith, c .loop-test .taken, s .pre .0 .2), omega (arith, s .good))
@@ -43,12 +43,12 @@ four c =
 four-left : (c : tie.Then1 Inv-loop μ-loop) → let values = start (turn c) .args .batch .now in (turn c .loop .i + 4 ≤ length values) × (4 * length values < 2 ^ 64)
 four-left c = let s = start (turn c) in (omega (arith, four c .within, s .pre .0 .2), omega (arith, s .good))
 
-sums : (c : tie.At-loop Inv-loop μ-loop) → let a = start c .args in Sums (acceptCounts (a .depth-threshold) (a .chi2-threshold)) (λ n. n)
-sums c = let a = start c .args in accepted-count-is-sum (a .depth-threshold) (a .chi2-threshold)
+sums : (c : tie.At-loop Inv-loop μ-loop) → let a = start c .args in Sums (acceptCounts 13 (a .protected .now) (a .depth-threshold) (a .chi2-threshold)) (λ n. n)
+sums c = let a = start c .args in accepted-count-is-sum 13 (a .protected .now) (a .depth-threshold) (a .chi2-threshold)
 
 -- ---- the answers
 loop-holds : tie.Need-loop-holds Inv-loop μ-loop
-loop-holds c = let p = c .before .before .before .before .pre in (before-first (p .0 .0), refl, refl, p .1 .1)
+loop-holds c = let p = c .before .before .before .before .before .pre in (before-first (p .0 .0), refl, refl, p .1 .1)
 
 mul-hash : tie.Need-mul-hash Inv-loop μ-loop
 mul-hash c = search needs
@@ -99,7 +99,7 @@ push-siblings-requires c κs =
     let o = turn t .loop in
     let w = o .inv .0 in
     let f = four t in
-    (w .stands, omega (arith, w .least, f .within, o .inv .1, p .3), omega (arith, w .least, f .within, o .inv .2, p .4), f .deep, p .1, f .below, f .first, omega (arith, o .inv .3, sum-drop-four (start (turn t) .args .batch .now) (o .i) (four-left t .0)))
+    (w .stands, omega (arith, w .least, f .within, o .inv .1, p .3), omega (arith, w .least, f .within, o .inv .2, p .4), f .deep, p .1, f .below, f .first, omega (arith, o .inv .3, sum-drop-four (start (turn t) .args .batch .now) (o .i) (four-left t .0)), p .5)
 
 add-i : tie.Need-add-i Inv-loop μ-loop
 add-i c = omega (arith, four-left (c .before .before .before .before .before .before .before .before .before .before .before))
@@ -142,6 +142,7 @@ push-requires c κs =
       omega (arith, w .least, i, o .inv .2, p .0 .4),
       record { deep = p .0 .1; hash = p .1 .0 .below (o .i) i; is = c .before .to-zuniq-unchecked .ensures },
       omega (arith, o .inv .3, sum-drop (start (t .before) .args .batch .now) (o .i) (cell-left t .0)),
+      p .0 .5,
     )
 
 add-i-2 : tie.Need-add-i-2 Inv-loop μ-loop

@@ -13,21 +13,21 @@ use Rattle.build.proofs.Siblings.{no-fourth-pushed, collapsed-pushed, kept-adde
 use Rattle.narrow_counts.proofs.push_siblings.Statement.{statement}
 use Rattle.narrow_counts.proofs.push_siblings.Tie as tie
 
-abbrev start : tie.After-merge-counts → tie.Start
-start c = c .before .before .before
+abbrev start : tie.After-merge-narrow-counts → tie.Start
+start c = c .before .before .before .before
 
 -- ---- the parent
-parent : (c : tie.After-merge-counts) → let a = start c .args in IsZuniqOf 13 (zuniq 13 (a .depth - 1) (a .hash / 4)) (a .depth - 1) (a .hash / 4)
-parent c =
-    let a = start c .args in
-    let p = start c .pre in
+parent : (s : tie.Start) → let a = s .args in IsZuniqOf 13 (zuniq 13 (a .depth - 1) (a .hash / 4)) (a .depth - 1) (a .hash / 4)
+parent s =
+    let a = s .args in
+    let p = s .pre in
     let first : IsZuniqOf 13 (zuniq 13 (a .depth) (a .hash)) (a .depth) (a .hash) = record { deep = p .4; hash = omega (arith, p .5); is = refl } in
     parent-zuniq (p .3) first
 
-merged : (c : tie.After-count) → let a = start (c .before .before) .args in acceptCounts (a .depth-threshold) (a .chi2-threshold) (a .depth - 1) (a .hash / 4) (a .n0) (a .n1) (a .n2) (a .n3) ≡ some (c .count .given .0 .0)
+merged : (c : tie.After-count) → let a = start (c .before .before) .args in acceptCounts 13 (a .protected .now) (a .depth-threshold) (a .chi2-threshold) (a .depth - 1) (a .hash / 4) (a .n0) (a .n1) (a .n2) (a .n3) ≡ some (c .count .given .0 .0)
 merged c =
     let a = start (c .before .before) .args in
-    accept-counts-iff-merged (a .depth-threshold) (a .chi2-threshold) (a .depth - 1) (a .hash / 4) (a .n0) (a .n1) (a .n2) (a .n3) _ .1 (sym (c .before .before .merge-counts .ensures) ∙ c .count .given .1)
+    accept-counts-iff-merged 13 (a .protected .now) (a .depth-threshold) (a .chi2-threshold) (a .depth - 1) (a .hash / 4) (a .n0) (a .n1) (a .n2) (a .n3) _ .1 (sym (c .before .before .merge-narrow-counts .ensures) ∙ c .count .given .1)
 
 -- ---- is appended
 abbrev accepted : tie.After-append → tie.After-count
@@ -37,18 +37,18 @@ put : (c : tie.After-append) → let a = start (accepted c .before .before) .arg
     Stored 13 (a .n) (c .before .before .before .to-zuniq-unchecked .result) (a .depth - 1) (a .hash / 4) (accepted c .count .given .0 .0) (a .zuniqs .now) (a .counts .now) (c .append .last .0) (c .append .last .1 .0)
 put c =
     let p = start (accepted c .before .before) .pre in
-    let v = parent (accepted c .before .before) in
+    let v = parent (start (accepted c .before .before)) in
     stored 13 (p .0) (omega (arith, p .1)) (omega (arith, p .2)) (record { deep = v .deep; hash = v .hash; is = c .before .before .before .to-zuniq-unchecked .ensures }) (c .append .ensures)
 
 -- ---- the answers
 sub-parent-depth : tie.Need-sub-parent-depth
 sub-parent-depth c = search needs
 
-cast-merge-counts : tie.Need-cast-merge-counts
-cast-merge-counts c = search needs
-
-merge-counts-requires : tie.Need-merge-counts-requires
-merge-counts-requires c κs = search needs
+merge-narrow-counts-requires : tie.Need-merge-narrow-counts-requires
+merge-narrow-counts-requires c κs =
+    let s = c .before .before .before in
+    let v = parent s in
+    (omega (arith, s .pre .7), v .deep, v .hash, s .pre .8)
 
 enum-known-count : tie.Need-enum-known-count
 enum-known-count c = search needs
@@ -73,11 +73,11 @@ returns c =
     let k = c .before .before .before .before .before .before .before in
     let s = start (k .before .before) in
     let a = s .args in
-    let kept = reject-counts-iff-kept (a .depth-threshold) (a .chi2-threshold) (a .depth - 1) (a .hash / 4) (a .n0) (a .n1) (a .n2) (a .n3) .1 (_, sym (k .before .before .merge-counts .ensures) ∙ k .enum-told .given .1) in
+    let kept = reject-counts-iff-kept 13 (a .protected .now) (a .depth-threshold) (a .chi2-threshold) (a .depth - 1) (a .hash / 4) (a .n0) (a .n1) (a .n2) (a .n3) .1 (_, sym (k .before .before .merge-narrow-counts .ensures) ∙ k .enum-told .given .1) in
     kept-added (s .pre .3) (s .pre .6) kept (c .before .before .before .before .append-siblings .ensures)
 
 to-zuniq-unchecked-requires : tie.Need-to-zuniq-unchecked-requires
-to-zuniq-unchecked-requires c κs = let v = parent (c .before .before .before) in (v .deep, v .hash)
+to-zuniq-unchecked-requires c κs = let v = parent (start (c .before .before .before)) in (v .deep, v .hash)
 
 append-requires : tie.Need-append-requires
 append-requires c κs = search needs
@@ -105,8 +105,8 @@ collapse-requires c κs =
     let s = put (c .before .before .before .before .before .before .before) in
     let m = accepted (c .before .before .before .before .before .before .before) in
     let a = start (m .before .before) .args in
-    let sum = accepted-count-is-sum (a .depth-threshold) (a .chi2-threshold) (a .depth - 1) (a .hash / 4) (a .n0) (a .n1) (a .n2) (a .n3) _ (merged m) in
-    (omega arith, s .stands, s .top, s .value 0, rw (s .map-is) (omega (arith, start (m .before .before) .pre .7, sum)))
+    let sum = accepted-count-is-sum 13 (a .protected .now) (a .depth-threshold) (a .chi2-threshold) (a .depth - 1) (a .hash / 4) (a .n0) (a .n1) (a .n2) (a .n3) _ (merged m) in
+    (omega arith, s .stands, s .top, s .value 0, rw (s .map-is) (omega (arith, start (m .before .before) .pre .7, sum)), start (m .before .before) .pre .8)
 
 same-length-5 : tie.Need-same-length-5
 same-length-5 c = search needs
@@ -125,8 +125,7 @@ push-siblings-spec =
     tie.close
     (tie.spec
     sub-parent-depth
-    cast-merge-counts
-    merge-counts-requires
+    merge-narrow-counts-requires
     enum-known-count
     enum-told
     append-siblings-requires
