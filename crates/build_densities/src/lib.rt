@@ -7,6 +7,7 @@ ghost use lib.Ieee.{nan};
 ghost use lib.ListN.{length, getD, set, take};
 ghost use Rattle.zuniq.specs.Cells.{nHash};
 ghost use Rattle.zuniq.specs.Codec.{IsZuniqOf};
+ghost use Rattle.protection.specs.Protected.{RisingList};
 ghost use Rattle.merger.specs.Floats.{invalidDensity};
 ghost use Rattle.merger.specs.Merge.{unitDensity, mergeDensities, acceptDensities};
 ghost use Rattle.refusal.specs.Checks.{orElse, checkOf};
@@ -34,23 +35,26 @@ use refusal::Refusal;
 use zuniq::Zuniq64;
 use zuniq::n_hash_unchecked;
 
-// Adds a batch of cells of one depth to the first `held` entries of a map in two buffers.
+// Adds a batch of cells of one depth to the first `held` entries of a map in two buffers. Nothing is
+// merged into a protected parent.
 pub fn add_densities(
     depth: u8,
     depth_threshold: u8,
     chi2_threshold: f64,
+    protected: &[u64],
     held: usize,
     zuniqs: &mut [u64],
     densities: &mut [f64],
     hashes: &[u64],
     batch: &[f64],
 ) -> DensitiesAdded
-    ensures { λ r. ⌜ (r, now (zuniqs .exit), now (densities .exit)) ≡ addDensities depth «depth_threshold» «chi2_threshold» held (now (zuniqs .entry)) (now (densities .entry)) (now (hashes .entry)) (now (batch .entry)) ⌝ }
+    ensures { λ r. ⌜ (r, now (zuniqs .exit), now (densities .exit)) ≡ addDensities (now (protected .entry)) depth «depth_threshold» «chi2_threshold» held (now (zuniqs .entry)) (now (densities .entry)) (now (hashes .entry)) (now (batch .entry)) ⌝ }
 {
     if let Check::Refused(refusal) = check(
         depth,
         depth_threshold,
         chi2_threshold,
+        protected,
         held,
         zuniqs,
         densities,
@@ -68,6 +72,7 @@ pub fn add_densities(
         batch,
         depth_threshold,
         chi2_threshold,
+        protected,
     );
     clear_zuniqs(&mut zuniqs[entries..]);
     clear_densities(&mut densities[entries..]);
@@ -79,18 +84,20 @@ fn check(
     depth: u8,
     depth_threshold: u8,
     chi2_threshold: f64,
+    protected: &[u64],
     held: usize,
     zuniqs: &[u64],
     densities: &[f64],
     hashes: &[u64],
     batch: &[f64],
 ) -> Check
-    ensures { λ r. ⌜ r ≡ checkOf (densitiesRefusal depth «depth_threshold» «chi2_threshold» held (length (now (zuniqs .entry))) (length (now (densities .entry))) (take held (now (zuniqs .entry))) (take held (now (densities .entry))) (now (hashes .entry)) (now (batch .entry))) ⌝ }
+    ensures { λ r. ⌜ r ≡ checkOf (densitiesRefusal (now (protected .entry)) depth «depth_threshold» «chi2_threshold» held (length (now (zuniqs .entry))) (length (now (densities .entry))) (take held (now (zuniqs .entry))) (take held (now (densities .entry))) (now (hashes .entry)) (now (batch .entry))) ⌝ }
 {
     match check_held(
         depth,
         depth_threshold,
         chi2_threshold,
+        protected,
         held,
         zuniqs,
         densities.len(),
@@ -140,10 +147,11 @@ fn push_all(
     batch: &[f64],
     depth_threshold: u8,
     chi2_threshold: f64,
+    protected: &[u64],
 ) -> usize
-    requires { ⌜ Stands 29 held (now zuniqs) (now densities) × (depth ≤ 29) × (length (now hashes) ≡ length (now batch)) × (held + length (now hashes) ≤ length (now zuniqs)) × (held + length (now hashes) ≤ length (now densities)) ⌝ }
+    requires { ⌜ Stands 29 held (now zuniqs) (now densities) × (depth ≤ 29) × (length (now hashes) ≡ length (now batch)) × (held + length (now hashes) ≤ length (now zuniqs)) × (held + length (now hashes) ≤ length (now densities)) × RisingList (now protected) ⌝ }
     requires { ⌜ Rising depth (now hashes) ⌝ }
-    ensures { λ r. ⌜ Added (acceptDensities «depth_threshold» «chi2_threshold») 29 held (batchOf depth (now (hashes .entry)) (now (batch .entry))) (now (zuniqs .entry)) (now (densities .entry)) r (now (zuniqs .exit)) (now (densities .exit)) ⌝ }
+    ensures { λ r. ⌜ Added (acceptDensities (now (protected .entry)) «depth_threshold» «chi2_threshold») 29 held (batchOf depth (now (hashes .entry)) (now (batch .entry))) (now (zuniqs .entry)) (now (densities .entry)) r (now (zuniqs .exit)) (now (densities .exit)) ⌝ }
 {
     let c = unit_density_of_parents(depth);
     let mut n = held;
@@ -164,6 +172,7 @@ fn push_all(
                 batch[i + 3],
                 depth_threshold,
                 chi2_threshold,
+                protected,
             );
             i += 4;
         } else {
@@ -177,6 +186,7 @@ fn push_all(
                 batch[i],
                 depth_threshold,
                 chi2_threshold,
+                protected,
             );
             i += 1;
         }
@@ -200,9 +210,10 @@ fn push_siblings(
     m3: f64,
     depth_threshold: u8,
     chi2_threshold: f64,
+    protected: &[u64],
 ) -> usize
-    requires { ⌜ Stands 29 n (now zuniqs) (now densities) × (n + 4 ≤ length (now zuniqs)) × (n + 4 ≤ length (now densities)) × (0 < depth) × (depth ≤ 29) × (hash + 3 < nHash depth) × (hash % 4 ≡ 0) × (c ≡ unitDensity (depth - 1)) ⌝ }
-    ensures { λ r. ⌜ Added (acceptDensities «depth_threshold» «chi2_threshold») 29 n (siblings depth hash m0 m1 m2 m3) (now (zuniqs .entry)) (now (densities .entry)) r (now (zuniqs .exit)) (now (densities .exit)) ⌝ }
+    requires { ⌜ Stands 29 n (now zuniqs) (now densities) × (n + 4 ≤ length (now zuniqs)) × (n + 4 ≤ length (now densities)) × (0 < depth) × (depth ≤ 29) × (hash + 3 < nHash depth) × (hash % 4 ≡ 0) × (c ≡ unitDensity (depth - 1)) × RisingList (now protected) ⌝ }
+    ensures { λ r. ⌜ Added (acceptDensities (now (protected .entry)) «depth_threshold» «chi2_threshold») 29 n (siblings depth hash m0 m1 m2 m3) (now (zuniqs .entry)) (now (densities .entry)) r (now (zuniqs .exit)) (now (densities .exit)) ⌝ }
 {
     let parent_depth = depth - 1;
     let parent_hash = hash / 4;
@@ -212,6 +223,7 @@ fn push_siblings(
         parent_hash,
         depth_threshold,
         chi2_threshold,
+        protected,
         m0,
         m1,
         m2,
@@ -234,6 +246,7 @@ fn push_siblings(
         density,
         depth_threshold,
         chi2_threshold,
+        protected,
     )
 }
 
@@ -274,9 +287,10 @@ pub fn push(
     density: f64,
     depth_threshold: u8,
     chi2_threshold: f64,
+    protected: &[u64],
 ) -> usize
-    requires { ⌜ Stands 29 n (now zuniqs) (now densities) × (n < length (now zuniqs)) × (n < length (now densities)) × IsZuniqOf 29 zuniq depth hash ⌝ }
-    ensures { λ r. ⌜ Pushed (acceptDensities «depth_threshold» «chi2_threshold») 29 n (entry depth hash density) (now (zuniqs .entry)) (now (densities .entry)) r (now (zuniqs .exit)) (now (densities .exit)) ⌝ }
+    requires { ⌜ Stands 29 n (now zuniqs) (now densities) × (n < length (now zuniqs)) × (n < length (now densities)) × IsZuniqOf 29 zuniq depth hash × RisingList (now protected) ⌝ }
+    ensures { λ r. ⌜ Pushed (acceptDensities (now (protected .entry)) «depth_threshold» «chi2_threshold») 29 n (entry depth hash density) (now (zuniqs .entry)) (now (densities .entry)) r (now (zuniqs .exit)) (now (densities .exit)) ⌝ }
 {
     append(zuniqs, densities, n, zuniq, density);
     // Most cells are no fourth child: for them that is all.
@@ -292,6 +306,7 @@ pub fn push(
         density,
         depth_threshold,
         chi2_threshold,
+        protected,
     )
 }
 
@@ -316,9 +331,10 @@ fn collapse(
     last_density: f64,
     depth_threshold: u8,
     chi2_threshold: f64,
+    protected: &[u64],
 ) -> usize
-    requires { ⌜ (0 < len) × Stands 29 len (now zuniqs) (now densities) × IsZuniqOf 29 (getD (now zuniqs) (len - 1) 0) «last_depth» «last_hash» × (getD (now densities) (len - 1) nan ≡ «last_density») ⌝ }
-    ensures { λ r. ⌜ Collapsed (acceptDensities «depth_threshold» «chi2_threshold») 29 len (now (zuniqs .entry)) (now (densities .entry)) r (now (zuniqs .exit)) (now (densities .exit)) ⌝ }
+    requires { ⌜ (0 < len) × Stands 29 len (now zuniqs) (now densities) × IsZuniqOf 29 (getD (now zuniqs) (len - 1) 0) «last_depth» «last_hash» × (getD (now densities) (len - 1) nan ≡ «last_density») × RisingList (now protected) ⌝ }
+    ensures { λ r. ⌜ Collapsed (acceptDensities (now (protected .entry)) «depth_threshold» «chi2_threshold») 29 len (now (zuniqs .entry)) (now (densities .entry)) r (now (zuniqs .exit)) (now (densities .exit)) ⌝ }
 {
     let mut n = len;
     let mut depth = last_depth;
@@ -338,6 +354,7 @@ fn collapse(
             hash,
             depth_threshold,
             chi2_threshold,
+            protected,
         ) {
             DensityMerge::Kept(_) => return n,
             DensityMerge::Merged(mean) => {
@@ -361,9 +378,10 @@ fn merge_last(
     parent_hash: u64,
     depth_threshold: u8,
     chi2_threshold: f64,
+    protected: &[u64],
 ) -> DensityMerge
-    requires { ⌜ (4 ≤ n) × (n ≤ length (now densities)) × («parent_depth» ≤ 29) ⌝ }
-    ensures { λ r. ⌜ r ≡ mergeDensities «depth_threshold» «chi2_threshold» «parent_depth» «parent_hash» (getD (now (densities .entry)) (n - 4) nan) (getD (now (densities .entry)) (n - 3) nan) (getD (now (densities .entry)) (n - 2) nan) last ⌝ }
+    requires { ⌜ (4 ≤ n) × (n ≤ length (now densities)) × («parent_depth» ≤ 29) × («parent_hash» < nHash «parent_depth») × RisingList (now protected) ⌝ }
+    ensures { λ r. ⌜ r ≡ mergeDensities (now (protected .entry)) «depth_threshold» «chi2_threshold» «parent_depth» «parent_hash» (getD (now (densities .entry)) (n - 4) nan) (getD (now (densities .entry)) (n - 3) nan) (getD (now (densities .entry)) (n - 2) nan) last ⌝ }
 {
     merge_densities_with(
         unit_density(parent_depth),
@@ -371,6 +389,7 @@ fn merge_last(
         parent_hash,
         depth_threshold,
         chi2_threshold,
+        protected,
         densities[n - 4],
         densities[n - 3],
         densities[n - 2],

@@ -1,11 +1,12 @@
 // Pooling two count maps: a cell of the overlay that one map has keeps its count, one that both have
 // gets the sum; then the cells are merged under M and T.
 //
-// A call looks at everything before it writes anything: one pass over each map, then the overlay is
-// walked once to count its cells and once more to merge them.
+// A call looks at everything before it writes anything: one pass over the protected parents and one
+// over each map, then the overlay is walked once to count its cells and once more to merge them.
 ghost use mathlib.Core.Path.{_≡_};
 ghost use Prim.Native.Nat.{_+_, _≤_};
 ghost use lib.ListN.{length};
+ghost use Rattle.protection.specs.Protected.{RisingList};
 ghost use Rattle.build.specs.Add.{sumOf};
 ghost use Rattle.build.specs.Counts.{totalOf, totalOr};
 ghost use Rattle.combine.specs.Slices.{entriesOf, Holds};
@@ -20,6 +21,7 @@ use combine::Pass;
 use combine::check_maps;
 use combine::check_pairs;
 use combine::check_settings;
+use protection::check_protected;
 use refusal::Check;
 use refusal::Refusal;
 use walk::pool_cells;
@@ -38,10 +40,11 @@ pub fn pool(
     right_counts: &[u32],
     depth_threshold: u8,
     chi2_threshold: f64,
+    protected: &[u64],
     zuniqs: &mut [u64],
     counts: &mut [u32],
 ) -> CountsAdded
-    ensures { λ r. ⌜ (r, now (zuniqs .exit), now (counts .exit)) ≡ poolCounts (record { depth = «left_depth»; zuniqs = now («left_zuniqs» .entry); values = now («left_counts» .entry) }) (record { depth = «right_depth»; zuniqs = now («right_zuniqs» .entry); values = now («right_counts» .entry) }) «depth_threshold» «chi2_threshold» (now (zuniqs .entry)) (now (counts .entry)) ⌝ }
+    ensures { λ r. ⌜ (r, now (zuniqs .exit), now (counts .exit)) ≡ poolCounts (now (protected .entry)) (record { depth = «left_depth»; zuniqs = now («left_zuniqs» .entry); values = now («left_counts» .entry) }) (record { depth = «right_depth»; zuniqs = now («right_zuniqs» .entry); values = now («right_counts» .entry) }) «depth_threshold» «chi2_threshold» (now (zuniqs .entry)) (now (counts .entry)) ⌝ }
 {
     match check(
         left_depth,
@@ -52,6 +55,7 @@ pub fn pool(
         right_counts,
         depth_threshold,
         chi2_threshold,
+        protected,
         zuniqs.len(),
         counts.len(),
     ) {
@@ -63,6 +67,7 @@ pub fn pool(
             right_counts,
             depth_threshold,
             chi2_threshold,
+            protected,
             total,
             zuniqs,
             counts,
@@ -78,12 +83,13 @@ fn pool_checked(
     right_counts: &[u32],
     depth_threshold: u8,
     chi2_threshold: f64,
+    protected: &[u64],
     total: u32,
     zuniqs: &mut [u64],
     counts: &mut [u32],
 ) -> CountsAdded
-    requires { ⌜ Holds (now «left_zuniqs») (now «left_counts») × Holds (now «right_zuniqs») (now «right_counts») × (totalOf (entriesOf (now «left_zuniqs») (now «left_counts»)) + totalOf (entriesOf (now «right_zuniqs») (now «right_counts»)) ≡ total) × (length (now zuniqs) ≡ length (now counts)) ⌝ }
-    ensures { λ r. ⌜ (r, now (zuniqs .exit), now (counts .exit)) ≡ poolOver 29 (placesRefusal (length (now (zuniqs .entry))) (length (poolCells (now («left_zuniqs» .entry)) (now («left_counts» .entry)) (now («right_zuniqs» .entry)) (now («right_counts» .entry))))) (entriesOf (now («left_zuniqs» .entry)) (now («left_counts» .entry))) (entriesOf (now («right_zuniqs» .entry)) (now («right_counts» .entry))) «depth_threshold» «chi2_threshold» (now (zuniqs .entry)) (now (counts .entry)) ⌝ }
+    requires { ⌜ Holds (now «left_zuniqs») (now «left_counts») × Holds (now «right_zuniqs») (now «right_counts») × (totalOf (entriesOf (now «left_zuniqs») (now «left_counts»)) + totalOf (entriesOf (now «right_zuniqs») (now «right_counts»)) ≡ total) × (length (now zuniqs) ≡ length (now counts)) × RisingList (now protected) ⌝ }
+    ensures { λ r. ⌜ (r, now (zuniqs .exit), now (counts .exit)) ≡ poolOver (now (protected .entry)) 29 (placesRefusal (length (now (zuniqs .entry))) (length (poolCells (now («left_zuniqs» .entry)) (now («left_counts» .entry)) (now («right_zuniqs» .entry)) (now («right_counts» .entry))))) (entriesOf (now («left_zuniqs» .entry)) (now («left_counts» .entry))) (entriesOf (now («right_zuniqs» .entry)) (now («right_counts» .entry))) «depth_threshold» «chi2_threshold» (now (zuniqs .entry)) (now (counts .entry)) ⌝ }
 {
     let cells = pool_cells(
         left_zuniqs,
@@ -91,6 +97,7 @@ fn pool_checked(
         right_zuniqs,
         right_counts,
         Pass::Count,
+        protected,
         zuniqs,
         counts,
     );
@@ -107,6 +114,7 @@ fn pool_checked(
         right_zuniqs,
         right_counts,
         pass,
+        protected,
         zuniqs,
         counts,
     );
@@ -126,10 +134,11 @@ fn check(
     right_counts: &[u32],
     depth_threshold: u8,
     chi2_threshold: f64,
+    protected: &[u64],
     places: usize,
     values: usize,
 ) -> Total
-    ensures { λ r. ⌜ r ≡ totalOr (poolInputRefusal (record { depth = «left_depth»; zuniqs = now («left_zuniqs» .entry); values = now («left_counts» .entry) }) (record { depth = «right_depth»; zuniqs = now («right_zuniqs» .entry); values = now («right_counts» .entry) }) «depth_threshold» «chi2_threshold» places values) (sumOf (now («left_counts» .entry)) + sumOf (now («right_counts» .entry))) ⌝ }
+    ensures { λ r. ⌜ r ≡ totalOr (poolInputRefusal (now (protected .entry)) (record { depth = «left_depth»; zuniqs = now («left_zuniqs» .entry); values = now («left_counts» .entry) }) (record { depth = «right_depth»; zuniqs = now («right_zuniqs» .entry); values = now («right_counts» .entry) }) «depth_threshold» «chi2_threshold» places values) (sumOf (now («left_counts» .entry)) + sumOf (now («right_counts» .entry))) ⌝ }
 {
     if let Check::Refused(refusal) = check_settings(
         left_depth,
@@ -137,6 +146,9 @@ fn check(
         depth_threshold,
         chi2_threshold,
     ) {
+        return Total::Refused(refusal);
+    }
+    if let Check::Refused(refusal) = check_protected(protected) {
         return Total::Refused(refusal);
     }
     if let Check::Refused(refusal) = check_pairs(

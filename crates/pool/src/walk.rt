@@ -8,6 +8,7 @@ ghost use mathlib.Core.Path.{_≡_};
 ghost use mathlib.Core.List.{[], _∷_};
 ghost use mathlib.Core.Option.{some};
 ghost use Prim.Native.Nat.{_+_, _-_, _≤_, _<_};
+ghost use Rattle.protection.specs.Protected.{RisingList};
 ghost use Rattle.merger.specs.Merge.{acceptCounts};
 ghost use Rattle.build.specs.Counts.{totalOf};
 ghost use Rattle.combine.specs.Rules.{splitCount};
@@ -40,12 +41,13 @@ pub(crate) fn pool_cells(
     right_zuniqs: &[u64],
     right_counts: &[u32],
     pass: Pass,
+    protected: &[u64],
     zuniqs: &mut [u64],
     counts: &mut [u32],
 ) -> usize
-    requires { ⌜ Holds (now «left_zuniqs») (now «left_counts») × Holds (now «right_zuniqs») (now «right_counts») × (totalOf (entriesOf (now «left_zuniqs») (now «left_counts»)) + totalOf (entriesOf (now «right_zuniqs») (now «right_counts»)) ≤ 4294967295) ⌝ }
+    requires { ⌜ Holds (now «left_zuniqs») (now «left_counts») × Holds (now «right_zuniqs») (now «right_counts») × (totalOf (entriesOf (now «left_zuniqs») (now «left_counts»)) + totalOf (entriesOf (now «right_zuniqs») (now «right_counts»)) ≤ 4294967295) × RisingList (now protected) ⌝ }
     requires { ⌜ Room pass (poolCells (now «left_zuniqs») (now «left_counts») (now «right_zuniqs») (now «right_counts»)) (now zuniqs) (now counts) ⌝ }
-    ensures { λ r. ⌜ Outcome pass acceptCounts 0 (poolCells (now («left_zuniqs» .entry)) (now («left_counts» .entry)) (now («right_zuniqs» .entry)) (now («right_counts» .entry))) (now (zuniqs .entry)) (now (counts .entry)) r (now (zuniqs .exit)) (now (counts .exit)) ⌝ }
+    ensures { λ r. ⌜ Outcome pass (acceptCounts 29 (now (protected .entry))) 0 (poolCells (now («left_zuniqs» .entry)) (now («left_counts» .entry)) (now («right_zuniqs» .entry)) (now («right_counts» .entry))) (now (zuniqs .entry)) (now (counts .entry)) r (now (zuniqs .exit)) (now (counts .exit)) ⌝ }
 {
     let mut lefts = [BLANK; 87];
     let mut rights = [BLANK; 87];
@@ -58,15 +60,36 @@ pub(crate) fn pool_cells(
         match turn_of(left, right) {
             Turn::Stop => return n,
             Turn::Left(a) => {
-                n = keep(pass, pool(LhsRhsBoth::Left(a)), zuniqs, counts, n);
+                n = keep(
+                    pass,
+                    protected,
+                    pool(LhsRhsBoth::Left(a)),
+                    zuniqs,
+                    counts,
+                    n,
+                );
                 left.taken = true;
             }
             Turn::Right(b) => {
-                n = keep(pass, pool(LhsRhsBoth::Right(b)), zuniqs, counts, n);
+                n = keep(
+                    pass,
+                    protected,
+                    pool(LhsRhsBoth::Right(b)),
+                    zuniqs,
+                    counts,
+                    n,
+                );
                 right.taken = true;
             }
             Turn::Both(a, b) => {
-                n = keep(pass, pool(LhsRhsBoth::Both(a, b)), zuniqs, counts, n);
+                n = keep(
+                    pass,
+                    protected,
+                    pool(LhsRhsBoth::Both(a, b)),
+                    zuniqs,
+                    counts,
+                    n,
+                );
                 left.taken = true;
                 right.taken = true;
             }
@@ -89,9 +112,16 @@ pub(crate) fn pool_cells(
 }
 
 // Counts a cell behind n others, or merges it into n entries. Answers the new number.
-fn keep(pass: Pass, cell: Dhzv, zuniqs: &mut [u64], counts: &mut [u32], n: usize) -> usize
-    requires { ⌜ CanKeep pass n (zuniqIn cell) (asEntry cell) (now zuniqs) (now counts) × TotalFits pass n cell (now zuniqs) (now counts) ⌝ }
-    ensures { λ r. ⌜ Outcome pass acceptCounts n (asEntry cell ∷ []) (now (zuniqs .entry)) (now (counts .entry)) r (now (zuniqs .exit)) (now (counts .exit)) ⌝ }
+fn keep(
+    pass: Pass,
+    protected: &[u64],
+    cell: Dhzv,
+    zuniqs: &mut [u64],
+    counts: &mut [u32],
+    n: usize,
+) -> usize
+    requires { ⌜ CanKeep pass n (zuniqIn cell) (asEntry cell) (now zuniqs) (now counts) × TotalFits pass n cell (now zuniqs) (now counts) × RisingList (now protected) ⌝ }
+    ensures { λ r. ⌜ Outcome pass (acceptCounts 29 (now (protected .entry))) n (asEntry cell ∷ []) (now (zuniqs .entry)) (now (counts .entry)) r (now (zuniqs .exit)) (now (counts .exit)) ⌝ }
 {
     match pass {
         Pass::Count => n + 1,
@@ -108,6 +138,7 @@ fn keep(pass: Pass, cell: Dhzv, zuniqs: &mut [u64], counts: &mut [u32], n: usize
             cell.value,
             depth_threshold,
             chi2_threshold,
+            protected,
         ),
     }
 }

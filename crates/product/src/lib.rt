@@ -1,12 +1,14 @@
 // The product of two density maps: a cell of the overlay that both maps have gets k times the left
 // density times the right one, and one that only one map has is dropped; then the cells are merged
-// under M and T.
+// under M and T, though not into a protected parent.
 //
-// A call looks at everything before it writes anything: one pass over each map, then the overlay is
-// walked once to count its cells and try their products, and once more to merge them.
+// A call looks at everything before it writes anything: one pass over the protected parents and one over
+// each map, then the overlay is walked once to count its cells and try their products, and once more to
+// merge them.
 ghost use mathlib.Core.Path.{_≡_};
 ghost use lib.ListN.{length};
 ghost use Rattle.refusal.specs.Checks.{orElse, checkOf};
+ghost use Rattle.protection.specs.Protected.{RisingList};
 ghost use Rattle.build.specs.Densities.{densityRefusal};
 ghost use Rattle.combine.specs.Slices.{entriesOf, Holds};
 ghost use Rattle.combine.specs.Densities.{productCells};
@@ -21,6 +23,7 @@ use combine::check_pairs;
 use combine::check_settings;
 use combine::densities::Cells;
 use merger::invalid_density;
+use protection::check_protected;
 use refusal::Check;
 use refusal::Refusal;
 use walk::product_cells;
@@ -38,10 +41,11 @@ pub fn product(
     depth_threshold: u8,
     chi2_threshold: f64,
     k: f64,
+    protected: &[u64],
     zuniqs: &mut [u64],
     densities: &mut [f64],
 ) -> DensitiesAdded
-    ensures { λ r. ⌜ (r, now (zuniqs .exit), now (densities .exit)) ≡ productDensities (record { depth = «left_depth»; zuniqs = now («left_zuniqs» .entry); values = now («left_densities» .entry) }) (record { depth = «right_depth»; zuniqs = now («right_zuniqs» .entry); values = now («right_densities» .entry) }) «depth_threshold» «chi2_threshold» k (now (zuniqs .entry)) (now (densities .entry)) ⌝ }
+    ensures { λ r. ⌜ (r, now (zuniqs .exit), now (densities .exit)) ≡ productDensities (now (protected .entry)) (record { depth = «left_depth»; zuniqs = now («left_zuniqs» .entry); values = now («left_densities» .entry) }) (record { depth = «right_depth»; zuniqs = now («right_zuniqs» .entry); values = now («right_densities» .entry) }) «depth_threshold» «chi2_threshold» k (now (zuniqs .entry)) (now (densities .entry)) ⌝ }
 {
     if let Check::Refused(refusal) = check(
         left_depth,
@@ -53,6 +57,7 @@ pub fn product(
         depth_threshold,
         chi2_threshold,
         k,
+        protected,
         zuniqs.len(),
         densities.len(),
     ) {
@@ -66,6 +71,7 @@ pub fn product(
         depth_threshold,
         chi2_threshold,
         k,
+        protected,
         zuniqs,
         densities,
     )
@@ -81,11 +87,12 @@ fn product_checked(
     depth_threshold: u8,
     chi2_threshold: f64,
     k: f64,
+    protected: &[u64],
     zuniqs: &mut [u64],
     densities: &mut [f64],
 ) -> DensitiesAdded
-    requires { ⌜ Holds (now «left_zuniqs») (now «left_densities») × Holds (now «right_zuniqs») (now «right_densities») × (length (now zuniqs) ≡ length (now densities)) ⌝ }
-    ensures { λ r. ⌜ (r, now (zuniqs .exit), now (densities .exit)) ≡ productOver 29 (orElse (finiteRefusal (productCells k (now («left_zuniqs» .entry)) (now («left_densities» .entry)) (now («right_zuniqs» .entry)) (now («right_densities» .entry)))) (placesRefusal (length (now (zuniqs .entry))) (length (productCells k (now («left_zuniqs» .entry)) (now («left_densities» .entry)) (now («right_zuniqs» .entry)) (now («right_densities» .entry)))))) (entriesOf (now («left_zuniqs» .entry)) (now («left_densities» .entry))) (entriesOf (now («right_zuniqs» .entry)) (now («right_densities» .entry))) «depth_threshold» «chi2_threshold» k (now (zuniqs .entry)) (now (densities .entry)) ⌝ }
+    requires { ⌜ Holds (now «left_zuniqs») (now «left_densities») × Holds (now «right_zuniqs») (now «right_densities») × (length (now zuniqs) ≡ length (now densities)) × RisingList (now protected) ⌝ }
+    ensures { λ r. ⌜ (r, now (zuniqs .exit), now (densities .exit)) ≡ productOver (now (protected .entry)) 29 (orElse (finiteRefusal (productCells k (now («left_zuniqs» .entry)) (now («left_densities» .entry)) (now («right_zuniqs» .entry)) (now («right_densities» .entry)))) (placesRefusal (length (now (zuniqs .entry))) (length (productCells k (now («left_zuniqs» .entry)) (now («left_densities» .entry)) (now («right_zuniqs» .entry)) (now («right_densities» .entry)))))) (entriesOf (now («left_zuniqs» .entry)) (now («left_densities» .entry))) (entriesOf (now («right_zuniqs» .entry)) (now («right_densities» .entry))) «depth_threshold» «chi2_threshold» k (now (zuniqs .entry)) (now (densities .entry)) ⌝ }
 {
     let Cells::Number(cells) = product_cells(
         left_zuniqs,
@@ -94,6 +101,7 @@ fn product_checked(
         right_densities,
         k,
         Pass::Count,
+        protected,
         zuniqs,
         densities,
     ) else {
@@ -112,6 +120,7 @@ fn product_checked(
             depth_threshold,
             chi2_threshold,
         },
+        protected,
         zuniqs,
         densities,
     ) else {
@@ -133,10 +142,11 @@ fn check(
     depth_threshold: u8,
     chi2_threshold: f64,
     k: f64,
+    protected: &[u64],
     places: usize,
     values: usize,
 ) -> Check
-    ensures { λ r. ⌜ r ≡ checkOf (productInputRefusal (record { depth = «left_depth»; zuniqs = now («left_zuniqs» .entry); values = now («left_densities» .entry) }) (record { depth = «right_depth»; zuniqs = now («right_zuniqs» .entry); values = now («right_densities» .entry) }) «depth_threshold» «chi2_threshold» k places values) ⌝ }
+    ensures { λ r. ⌜ r ≡ checkOf (productInputRefusal (now (protected .entry)) (record { depth = «left_depth»; zuniqs = now («left_zuniqs» .entry); values = now («left_densities» .entry) }) (record { depth = «right_depth»; zuniqs = now («right_zuniqs» .entry); values = now («right_densities» .entry) }) «depth_threshold» «chi2_threshold» k places values) ⌝ }
 {
     if let Check::Refused(refusal) = check_settings(
         left_depth,
@@ -147,6 +157,9 @@ fn check(
         return Check::Refused(refusal);
     }
     if let Check::Refused(refusal) = check_factor(k) {
+        return Check::Refused(refusal);
+    }
+    if let Check::Refused(refusal) = check_protected(protected) {
         return Check::Refused(refusal);
     }
     if let Check::Refused(refusal) = check_pairs(

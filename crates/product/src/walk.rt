@@ -8,6 +8,7 @@ ghost use mathlib.Core.Path.{_≡_};
 ghost use mathlib.Core.Option.{some};
 ghost use Prim.Native.Nat.{_-_, _≤_, _<_};
 ghost use lib.Ieee.{nan};
+ghost use Rattle.protection.specs.Protected.{RisingList};
 ghost use Rattle.combine.specs.Rules.{keptOf, copyDensity, productRule};
 ghost use Rattle.combine.specs.Heads.{sideStart, opened, Shallow, shownAs, Turned, Good, ChildOf, EntryAt, Advanced};
 ghost use Rattle.combine.specs.Slices.{Holds, Room};
@@ -43,12 +44,13 @@ pub(crate) fn product_cells(
     right_densities: &[f64],
     k: f64,
     pass: Pass,
+    protected: &[u64],
     zuniqs: &mut [u64],
     densities: &mut [f64],
 ) -> Cells
-    requires { ⌜ Holds (now «left_zuniqs») (now «left_densities») × Holds (now «right_zuniqs») (now «right_densities») ⌝ }
+    requires { ⌜ Holds (now «left_zuniqs») (now «left_densities») × Holds (now «right_zuniqs») (now «right_densities») × RisingList (now protected) ⌝ }
     requires { ⌜ Room pass (productCells k (now «left_zuniqs») (now «left_densities») (now «right_zuniqs») (now «right_densities»)) (now zuniqs) (now densities) ⌝ }
-    ensures { λ r. ⌜ CellsOutcome pass 0 (productCells k (now («left_zuniqs» .entry)) (now («left_densities» .entry)) (now («right_zuniqs» .entry)) (now («right_densities» .entry))) (now (zuniqs .entry)) (now (densities .entry)) r (now (zuniqs .exit)) (now (densities .exit)) ⌝ }
+    ensures { λ r. ⌜ CellsOutcome (now (protected .entry)) pass 0 (productCells k (now («left_zuniqs» .entry)) (now («left_densities» .entry)) (now («right_zuniqs» .entry)) (now («right_densities» .entry))) (now (zuniqs .entry)) (now (densities .entry)) r (now (zuniqs .exit)) (now (densities .exit)) ⌝ }
 {
     let mut lefts = [BLANK; 87];
     let mut rights = [BLANK; 87];
@@ -61,15 +63,18 @@ pub(crate) fn product_cells(
         match turn_of(left, right) {
             Turn::Stop => return cells,
             Turn::Left(a) => {
-                cells = show(pass, LhsRhsBoth::Left(a), k, zuniqs, densities, n);
+                let seen = LhsRhsBoth::Left(a);
+                cells = show(pass, protected, seen, k, zuniqs, densities, n);
                 left.taken = true;
             }
             Turn::Right(b) => {
-                cells = show(pass, LhsRhsBoth::Right(b), k, zuniqs, densities, n);
+                let seen = LhsRhsBoth::Right(b);
+                cells = show(pass, protected, seen, k, zuniqs, densities, n);
                 right.taken = true;
             }
             Turn::Both(a, b) => {
-                cells = show(pass, LhsRhsBoth::Both(a, b), k, zuniqs, densities, n);
+                let seen = LhsRhsBoth::Both(a, b);
+                cells = show(pass, protected, seen, k, zuniqs, densities, n);
                 left.taken = true;
                 right.taken = true;
             }
@@ -95,23 +100,31 @@ pub(crate) fn product_cells(
 // Shows a cell to the rule, and keeps what that answers.
 fn show(
     pass: Pass,
+    protected: &[u64],
     seen: LhsRhsBoth,
     k: f64,
     zuniqs: &mut [u64],
     densities: &mut [f64],
     n: usize,
 ) -> Cells
-    requires { ⌜ CanShow pass k n (sawOf seen) (now zuniqs) (now densities) ⌝ }
-    ensures { λ r. ⌜ CellsOutcome pass n (keptOf (productRule k) (shownAs asEntry (sawOf seen))) (now (zuniqs .entry)) (now (densities .entry)) r (now (zuniqs .exit)) (now (densities .exit)) ⌝ }
+    requires { ⌜ CanShow pass k n (sawOf seen) (now zuniqs) (now densities) × RisingList (now protected) ⌝ }
+    ensures { λ r. ⌜ CellsOutcome (now (protected .entry)) pass n (keptOf (productRule k) (shownAs asEntry (sawOf seen))) (now (zuniqs .entry)) (now (densities .entry)) r (now (zuniqs .exit)) (now (densities .exit)) ⌝ }
 {
-    keep(pass, product(seen, k), zuniqs, densities, n)
+    keep(pass, protected, product(seen, k), zuniqs, densities, n)
 }
 
 // Counts a cell behind n others, or merges it into n entries, if the rule keeps it and it is finite.
 // Answers the new number.
-fn keep(pass: Pass, answer: Answer, zuniqs: &mut [u64], densities: &mut [f64], n: usize) -> Cells
-    requires { ⌜ CanKeepCells pass n answer (now zuniqs) (now densities) ⌝ }
-    ensures { λ r. ⌜ CellsOutcome pass n (cellsOf answer) (now (zuniqs .entry)) (now (densities .entry)) r (now (zuniqs .exit)) (now (densities .exit)) ⌝ }
+fn keep(
+    pass: Pass,
+    protected: &[u64],
+    answer: Answer,
+    zuniqs: &mut [u64],
+    densities: &mut [f64],
+    n: usize,
+) -> Cells
+    requires { ⌜ CanKeepCells pass n answer (now zuniqs) (now densities) × RisingList (now protected) ⌝ }
+    ensures { λ r. ⌜ CellsOutcome (now (protected .entry)) pass n (cellsOf answer) (now (zuniqs .entry)) (now (densities .entry)) r (now (zuniqs .exit)) (now (densities .exit)) ⌝ }
 {
     let Answer::Kept(cell) = answer else {
         return Cells::Number(n);
@@ -134,6 +147,7 @@ fn keep(pass: Pass, answer: Answer, zuniqs: &mut [u64], densities: &mut [f64], n
             cell.value,
             depth_threshold,
             chi2_threshold,
+            protected,
         )),
     }
 }

@@ -1,6 +1,7 @@
 -- `add_densities` meets its contract. Assumes nothing.
 use mathlib.Core.Path.{_≡_, refl, sym, _∙_}
 use mathlib.Core.Option.{Option, none}
+use native.Mathlib.Omega.{arith}
 use lib.ListN.{length, take}
 use borrow.Author.Needs.{needs}
 use Rattle.refusal.specs.declared.Refusal.{Refusal}
@@ -15,12 +16,12 @@ use Rattle.build_densities.proofs.add_densities.Tie as tie
 
 -- ---- what is checked
 abbrev start : tie.After-check → tie.Start
-start c = c .before .before .before .before .before .before .before
+start c = c .before .before .before .before .before .before .before .before
 
 abbrev fault : tie.Start → Option Refusal
 fault s =
     let a = s .args in
-    densitiesRefusal (a .depth) (a .depth-threshold) (a .chi2-threshold) (a .held) (length (a .zuniqs .now)) (length (a .densities .now)) (take (a .held) (a .zuniqs .now)) (take (a .held) (a .densities .now)) (a .hashes .now) (a .batch .now)
+    densitiesRefusal (a .protected .now) (a .depth) (a .depth-threshold) (a .chi2-threshold) (a .held) (length (a .zuniqs .now)) (length (a .densities .now)) (take (a .held) (a .zuniqs .now)) (take (a .held) (a .densities .now)) (a .hashes .now) (a .batch .now)
 
 passed : (c : tie.After-enum-told) → fault (start (c .before .before)) ≡ none
 passed c = check-passed _ (sym (c .enum-told .given .1) ∙ c .before .before .check .ensures)
@@ -51,8 +52,9 @@ push-all-requires : tie.Need-push-all-requires
 push-all-requires c κs =
     let k = c .before .before in
     let a = start (k .before .before) .args in
-    may-push
-    (densities-accepted (a .depth) (a .depth-threshold) (a .chi2-threshold) (a .held) (length (a .zuniqs .now)) (length (a .densities .now)) (take (a .held) (a .zuniqs .now)) (take (a .held) (a .densities .now)) (a .hashes .now) (a .batch .now) (passed k))
+    let accepted = densities-accepted (a .protected .now) (a .depth) (a .depth-threshold) (a .chi2-threshold) (a .held) (length (a .zuniqs .now)) (length (a .densities .now)) (take (a .held) (a .zuniqs .now)) (take (a .held) (a .densities .now)) (a .hashes .now) (a .batch .now) (passed k) in
+    let may = may-push {zs = a .zuniqs .now} {vs = a .densities .now} (accepted .0) in
+    ((may .0 .0, may .0 .1, may .0 .2, may .0 .3, may .0 .4, accepted .1), may .1)
 
 mul-clear-zuniqs : tie.Need-mul-clear-zuniqs
 mul-clear-zuniqs c = search needs
@@ -70,7 +72,7 @@ clear-zuniqs-requires : tie.Need-clear-zuniqs-requires
 clear-zuniqs-requires c κs = search needs
 
 mul-clear-densities : tie.Need-mul-clear-densities
-mul-clear-densities c = search needs
+mul-clear-densities c = record { fits = omega (arith, mul-clear-zuniqs (c .before .before .before .before)) }
 
 sub-clear-densities : tie.Need-sub-clear-densities
 sub-clear-densities c = search needs
@@ -99,7 +101,7 @@ returns-2 c =
     let w = p .ensures in
     let zs = cleared (p .result) (p .last .0) _ 0 (w .stands .zuniqs) (c .before .before .before .before .before .before .clear-zuniqs .ensures) in
     let vs = cleared (p .result) (p .last .1 .0) _ 0·0 (w .stands .values) (c .before .before .clear-densities .ensures) in
-    densities-left (a .depth) (a .depth-threshold) (a .chi2-threshold) (a .held) (a .zuniqs .now) (a .densities .now) (a .hashes .now) (a .batch .now) (passed k) (p .result) (p .last .0) (p .last .1 .0) _ _ w
+    densities-left (a .protected .now) (a .depth) (a .depth-threshold) (a .chi2-threshold) (a .held) (a .zuniqs .now) (a .densities .now) (a .hashes .now) (a .batch .now) (passed k) (p .result) (p .last .0) (p .last .1 .0) _ _ w
     (p .kept .0) (p .kept .1 .0) zs vs
 
 pub add-densities-spec : {M : Type 1} → statement M

@@ -8,6 +8,7 @@ use lib.Ieee.{nan}
 use lib.ListN.{length, getD, length-set}
 use borrow.Author.Needs.{needs}
 use borrow.Author.Tests.{not-true, not-false}
+use Rattle.zuniq.specs.Codec.{zuniq, IsZuniqOf}
 use Rattle.merger.specs.Merge.{acceptDensities}
 use Rattle.merger.proofs.Accept.{accept-densities-iff-merged, reject-densities-iff-kept}
 use Rattle.build.specs.Stack.{collapse}
@@ -19,18 +20,18 @@ use Rattle.build_densities.proofs.collapse.Statement.{statement}
 use Rattle.build_densities.proofs.collapse.Tie as tie
 
 abbrev Inv-loop : tie.InvT-loop
-Inv-loop zuniqs₀ densities₀ len last-depth last-hash last-density depth-threshold chi2-threshold n₀ depth₀ hash₀ density₀ zuniqs densities n depth hash density =
-    let accept = acceptDensities depth-threshold chi2-threshold in
+Inv-loop zuniqs₀ densities₀ len last-depth last-hash last-density depth-threshold chi2-threshold protected n₀ depth₀ hash₀ density₀ zuniqs densities n depth hash density =
+    let accept = acceptDensities protected depth-threshold chi2-threshold in
     (n ≤ len) × (length zuniqs ≡ length zuniqs₀) × (length densities ≡ length densities₀)
     × Turning accept 29 nan (collapse accept (held 29 len zuniqs₀ densities₀)) n depth hash density zuniqs densities
     × Behind len zuniqs₀ densities₀ zuniqs densities
 
 abbrev μ-loop : tie.MeasureT-loop
-μ-loop zuniqs₀ densities₀ len last-depth last-hash last-density depth-threshold chi2-threshold n₀ depth₀ hash₀ density₀ zuniqs densities n depth hash density = depth
+μ-loop zuniqs₀ densities₀ len last-depth last-hash last-density depth-threshold chi2-threshold protected n₀ depth₀ hash₀ density₀ zuniqs densities n depth hash density = depth
 
 -- ---- a turn
 abbrev start : tie.At-loop Inv-loop μ-loop → tie.Start Inv-loop μ-loop
-start c = c .before .before .before
+start c = c .before .before .before .before
 
 deep : (c : tie.In-loop Inv-loop μ-loop) → 0 < c .before .loop .depth
 deep c = omega (arith, c .loop-test .taken)
@@ -48,22 +49,25 @@ room c =
     let w = o .inv .3 .stands in
     (four-left (o .inv .3) (quad c), w .zuniqs, w .values, omega (arith, w .zuniqs, o .inv .1, start (turn c) .good))
 
+parent : (c : tie.Else1 Inv-loop μ-loop) → let o = turn c .loop in IsZuniqOf 29 (zuniq 29 (o .depth - 1) (o .hash / 4)) (o .depth - 1) (o .hash / 4)
+parent c = parent-zuniq (deep (c .before .before .before)) (turn c .loop .inv .3 .top)
+
 -- and are merged
 abbrev found : tie.After-mean Inv-loop μ-loop → tie.Else1 Inv-loop μ-loop
 found c = c .before .before .before .before
 
 merged : (c : tie.After-mean Inv-loop μ-loop) → let o = turn (found c) .loop in
     let a = start (turn (found c)) .args in
-    acceptDensities (a .depth-threshold) (a .chi2-threshold) (o .depth - 1) (o .hash / 4) (getD (o .densities) (o .n - 4) nan) (getD (o .densities) (o .n - 3) nan) (getD (o .densities) (o .n - 2) nan) (o .density) ≡ some (c .mean .given .0 .0)
+    acceptDensities (a .protected .now) (a .depth-threshold) (a .chi2-threshold) (o .depth - 1) (o .hash / 4) (getD (o .densities) (o .n - 4) nan) (getD (o .densities) (o .n - 3) nan) (getD (o .densities) (o .n - 2) nan) (o .density) ≡ some (c .mean .given .0 .0)
 merged c =
     let o = turn (found c) .loop in
     let a = start (turn (found c)) .args in
-    accept-densities-iff-merged (a .depth-threshold) (a .chi2-threshold) (o .depth - 1) (o .hash / 4) (getD (o .densities) (o .n - 4) nan) (getD (o .densities) (o .n - 3) nan) (getD (o .densities) (o .n - 2) nan) (o .density) _ .1
+    accept-densities-iff-merged (a .protected .now) (a .depth-threshold) (a .chi2-threshold) (o .depth - 1) (o .hash / 4) (getD (o .densities) (o .n - 4) nan) (getD (o .densities) (o .n - 3) nan) (getD (o .densities) (o .n - 2) nan) (o .density) _ .1
     (sym (c .before .before .merge-last .ensures) ∙ c .mean .given .1)
 
 -- ---- the answers
 loop-holds : tie.Need-loop-holds Inv-loop μ-loop
-loop-holds c = let p = c .before .before .pre in (omega arith, refl, refl, turning-starts (c .before .before .args .len) (p .1) (p .0) (p .2) (p .3), behind-same _ _ _)
+loop-holds c = let p = c .before .before .before .pre in (omega arith, refl, refl, turning-starts (c .before .before .before .args .len) (p .1) (p .0) (p .2) (p .3), behind-same _ _ _)
 
 are-siblings-requires : tie.Need-are-siblings-requires Inv-loop μ-loop
 are-siblings-requires c κs = let w = c .before .before .loop .inv .3 in (w .stands .zuniqs, w .top)
@@ -89,9 +93,10 @@ sub-depth c = search needs
 
 merge-last-requires : tie.Need-merge-last-requires Inv-loop μ-loop
 merge-last-requires c κs =
-    let o = turn (c .before) .loop in
-    let r = room (c .before) in
-    (r .0, r .2, omega (arith, o .inv .3 .top .deep))
+    let e = c .before in
+    let r = room e in
+    let p = parent e in
+    (r .0, r .2, p .deep, p .hash, start (turn e) .pre .4)
 
 enum-told : tie.Need-enum-told Inv-loop μ-loop
 enum-told c = search needs
@@ -108,7 +113,7 @@ returns-2 c =
     let o = turn e .loop in
     let a = start (turn e) .args in
     let kept =
-    reject-densities-iff-kept (a .depth-threshold) (a .chi2-threshold) (o .depth - 1) (o .hash / 4) (getD (o .densities) (o .n - 4) nan) (getD (o .densities) (o .n - 3) nan) (getD (o .densities) (o .n - 2) nan) (o .density) .1
+    reject-densities-iff-kept (a .protected .now) (a .depth-threshold) (a .chi2-threshold) (o .depth - 1) (o .hash / 4) (getD (o .densities) (o .n - 4) nan) (getD (o .densities) (o .n - 3) nan) (getD (o .densities) (o .n - 2) nan) (o .density) .1
     (_, sym (c .before .before .merge-last .ensures) ∙ c .enum-told .given .1) in
     record { stands = o .inv .3 .stands; least = o .inv .0; is = kept-ends (o .inv .3) (deep (e .before .before .before)) (quad e) kept; behind = o .inv .4 }
 
@@ -120,8 +125,7 @@ sub-first c = omega (arith, room (found (c .before)))
 
 to-zuniq-unchecked-requires : tie.Need-to-zuniq-unchecked-requires Inv-loop μ-loop
 to-zuniq-unchecked-requires c κs =
-    let e = found (c .before) in
-    let p = parent-zuniq (deep (e .before .before .before)) (turn e .loop .inv .3 .top) in
+    let p = parent (found (c .before)) in
     (p .deep, p .hash)
 
 mul-zuniqs : tie.Need-mul-zuniqs Inv-loop μ-loop

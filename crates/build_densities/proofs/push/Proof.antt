@@ -8,8 +8,8 @@ use Rattle.build_densities.proofs.push.Statement.{statement}
 use Rattle.build_densities.proofs.push.Tie as tie
 
 -- ---- the cell is appended
-put : (c : tie.After-append) → let a = c .before .before .before .before .before .args in Stored 29 (a .n) (a .zuniq) (a .depth) (a .hash) (a .density) (a .zuniqs .now) (a .densities .now) (c .append .last .0) (c .append .last .1 .0)
-put c = let p = c .before .before .before .before .before .pre in stored 29 (p .0) (p .1) (p .2) (p .3) (c .append .ensures)
+put : (c : tie.After-append) → let a = c .before .before .before .before .before .before .args in Stored 29 (a .n) (a .zuniq) (a .depth) (a .hash) (a .density) (a .zuniqs .now) (a .densities .now) (c .append .last .0) (c .append .last .1 .0)
+put c = let p = c .before .before .before .before .before .before .pre in stored 29 (p .0) (p .1) (p .2) (p .3) (c .append .ensures)
 
 -- ---- the answers
 append-requires : tie.Need-append-requires
@@ -31,7 +31,10 @@ add-collapse : tie.Need-add-collapse
 add-collapse c = search needs
 
 collapse-requires : tie.Need-collapse-requires
-collapse-requires c κs = let s = put (c .before .before .before .before .before .before .before) in (omega arith, s .stands, s .top, s .value nan)
+collapse-requires c κs =
+    let k = c .before .before .before .before .before .before .before in
+    let s = put k in
+    (omega arith, s .stands, s .top, s .value nan, k .before .before .before .before .before .before .pre .4)
 
 same-length-3 : tie.Need-same-length-3
 same-length-3 c = search needs

@@ -12,16 +12,16 @@ use Rattle.build_densities.proofs.push_all.Statement.{statement}
 use Rattle.build_densities.proofs.push_all.Tie as tie
 
 abbrev Inv-loop : tie.InvT-loop
-Inv-loop zuniqs₀ densities₀ held depth hashes batch depth-threshold chi2-threshold c n₀ i₀ zuniqs densities n i =
-    Before (acceptDensities depth-threshold chi2-threshold) 29 depth held hashes batch zuniqs₀ densities₀ i n zuniqs densities
+Inv-loop zuniqs₀ densities₀ held depth hashes batch depth-threshold chi2-threshold protected c n₀ i₀ zuniqs densities n i =
+    Before (acceptDensities protected depth-threshold chi2-threshold) 29 depth held hashes batch zuniqs₀ densities₀ i n zuniqs densities
     × (length zuniqs ≡ length zuniqs₀) × (length densities ≡ length densities₀)
 
 abbrev μ-loop : tie.MeasureT-loop
-μ-loop zuniqs₀ densities₀ held depth hashes batch depth-threshold chi2-threshold c n₀ i₀ zuniqs densities n i = length hashes - i
+μ-loop zuniqs₀ densities₀ held depth hashes batch depth-threshold chi2-threshold protected c n₀ i₀ zuniqs densities n i = length hashes - i
 
 -- ---- a turn
 abbrev start : tie.At-loop Inv-loop μ-loop → tie.Start Inv-loop μ-loop
-start c = c .before .before .before .before .before .before
+start c = c .before .before .before .before .before .before .before
 
 cell-left : (c : tie.In-loop Inv-loop μ-loop) → let values = start (c .before) .args .batch .now in (c .before .loop .i < length values) × (8 * length values < 2 ^ 64)
 cell-left c = let s = start (c .before) in (omega (arith, c .loop-test .taken, s .pre .0 .2), omega (arith, s .good))
@@ -40,10 +40,10 @@ four-left c = let s = start (turn c) in (omega (arith, four c .within, s .pre .0
 
 -- ---- the answers
 unit-density-of-parents-requires : tie.Need-unit-density-of-parents-requires Inv-loop μ-loop
-unit-density-of-parents-requires c κs = c .before .before .before .before .pre .0 .1
+unit-density-of-parents-requires c κs = c .before .before .before .before .before .pre .0 .1
 
 loop-holds : tie.Need-loop-holds Inv-loop μ-loop
-loop-holds c = let p = c .before .before .before .before .before .pre in (before-first (p .0 .0), refl, refl)
+loop-holds c = let p = c .before .before .before .before .before .before .pre in (before-first (p .0 .0), refl, refl)
 
 mul-hash : tie.Need-mul-hash Inv-loop μ-loop
 mul-hash c = search needs
@@ -94,7 +94,7 @@ push-siblings-requires c κs =
     let o = turn t .loop in
     let w = o .inv .0 in
     let f = four t in
-    (w .stands, omega (arith, w .least, f .within, o .inv .1, p .3), omega (arith, w .least, f .within, o .inv .2, p .4), f .deep, p .1, f .below, f .first, turn t .before .unit-density-of-parents .ensures (f .deep))
+    (w .stands, omega (arith, w .least, f .within, o .inv .1, p .3), omega (arith, w .least, f .within, o .inv .2, p .4), f .deep, p .1, f .below, f .first, turn t .before .unit-density-of-parents .ensures (f .deep), p .5)
 
 add-i : tie.Need-add-i Inv-loop μ-loop
 add-i c = omega (arith, four-left (c .before .before .before .before .before .before .before .before .before .before .before))
@@ -132,6 +132,7 @@ push-requires c κs =
       omega (arith, w .least, i, o .inv .1, p .0 .3),
       omega (arith, w .least, i, o .inv .2, p .0 .4),
       record { deep = p .0 .1; hash = p .1 .below (o .i) i; is = c .before .to-zuniq-unchecked .ensures },
+      p .0 .5,
     )
 
 add-i-2 : tie.Need-add-i-2 Inv-loop μ-loop

@@ -15,20 +15,20 @@ use Rattle.build_densities.proofs.push_siblings.Statement.{statement}
 use Rattle.build_densities.proofs.push_siblings.Tie as tie
 
 abbrev start : tie.After-merge-densities-with → tie.Start
-start c = c .before .before .before
+start c = c .before .before .before .before
 
 -- ---- the parent
-parent : (c : tie.After-merge-densities-with) → let a = start c .args in IsZuniqOf 29 (zuniq 29 (a .depth - 1) (a .hash / 4)) (a .depth - 1) (a .hash / 4)
-parent c =
-    let a = start c .args in
-    let p = start c .pre in
+parent : (s : tie.Start) → let a = s .args in IsZuniqOf 29 (zuniq 29 (a .depth - 1) (a .hash / 4)) (a .depth - 1) (a .hash / 4)
+parent s =
+    let a = s .args in
+    let p = s .pre in
     let first : IsZuniqOf 29 (zuniq 29 (a .depth) (a .hash)) (a .depth) (a .hash) = record { deep = p .4; hash = omega (arith, p .5); is = refl } in
     parent-zuniq (p .3) first
 
-merged : (c : tie.After-density) → let a = start (c .before .before) .args in acceptDensities (a .depth-threshold) (a .chi2-threshold) (a .depth - 1) (a .hash / 4) (a .m0) (a .m1) (a .m2) (a .m3) ≡ some (c .density .given .0 .0)
+merged : (c : tie.After-density) → let a = start (c .before .before) .args in acceptDensities (a .protected .now) (a .depth-threshold) (a .chi2-threshold) (a .depth - 1) (a .hash / 4) (a .m0) (a .m1) (a .m2) (a .m3) ≡ some (c .density .given .0 .0)
 merged c =
     let a = start (c .before .before) .args in
-    accept-densities-iff-merged (a .depth-threshold) (a .chi2-threshold) (a .depth - 1) (a .hash / 4) (a .m0) (a .m1) (a .m2) (a .m3) _ .1 (sym (rw (start (c .before .before) .pre .7) at (c .before .before .merge-densities-with .ensures)) ∙ c .density .given .1)
+    accept-densities-iff-merged (a .protected .now) (a .depth-threshold) (a .chi2-threshold) (a .depth - 1) (a .hash / 4) (a .m0) (a .m1) (a .m2) (a .m3) _ .1 (sym (rw (start (c .before .before) .pre .7) at (c .before .before .merge-densities-with .ensures)) ∙ c .density .given .1)
 
 -- ---- is appended
 abbrev accepted : tie.After-append → tie.After-density
@@ -38,7 +38,7 @@ put : (c : tie.After-append) → let a = start (accepted c .before .before) .arg
     Stored 29 (a .n) (c .before .before .before .to-zuniq-unchecked .result) (a .depth - 1) (a .hash / 4) (accepted c .density .given .0 .0) (a .zuniqs .now) (a .densities .now) (c .append .last .0) (c .append .last .1 .0)
 put c =
     let p = start (accepted c .before .before) .pre in
-    let v = parent (accepted c .before .before) in
+    let v = parent (start (accepted c .before .before)) in
     stored 29 (p .0) (omega (arith, p .1)) (omega (arith, p .2)) (record { deep = v .deep; hash = v .hash; is = c .before .before .before .to-zuniq-unchecked .ensures }) (c .append .ensures)
 
 -- ---- the answers
@@ -46,7 +46,7 @@ sub-parent-depth : tie.Need-sub-parent-depth
 sub-parent-depth c = search needs
 
 merge-densities-with-requires : tie.Need-merge-densities-with-requires
-merge-densities-with-requires c κs = search needs
+merge-densities-with-requires c κs = let s = c .before .before .before in let v = parent s in (v .deep, v .hash, s .pre .8)
 
 enum-known-density : tie.Need-enum-known-density
 enum-known-density c = search needs
@@ -71,11 +71,11 @@ returns c =
     let k = c .before .before .before .before .before .before .before in
     let s = start (k .before .before) in
     let a = s .args in
-    let kept = reject-densities-iff-kept (a .depth-threshold) (a .chi2-threshold) (a .depth - 1) (a .hash / 4) (a .m0) (a .m1) (a .m2) (a .m3) .1 (_, sym (rw (s .pre .7) at (k .before .before .merge-densities-with .ensures)) ∙ k .enum-told .given .1) in
+    let kept = reject-densities-iff-kept (a .protected .now) (a .depth-threshold) (a .chi2-threshold) (a .depth - 1) (a .hash / 4) (a .m0) (a .m1) (a .m2) (a .m3) .1 (_, sym (rw (s .pre .7) at (k .before .before .merge-densities-with .ensures)) ∙ k .enum-told .given .1) in
     kept-added (s .pre .3) (s .pre .6) kept (c .before .before .before .before .append-siblings .ensures)
 
 to-zuniq-unchecked-requires : tie.Need-to-zuniq-unchecked-requires
-to-zuniq-unchecked-requires c κs = let v = parent (c .before .before .before) in (v .deep, v .hash)
+to-zuniq-unchecked-requires c κs = let v = parent (start (c .before .before .before)) in (v .deep, v .hash)
 
 append-requires : tie.Need-append-requires
 append-requires c κs = search needs
@@ -100,8 +100,9 @@ add-collapse c = search needs
 
 collapse-requires : tie.Need-collapse-requires
 collapse-requires c κs =
-    let s = put (c .before .before .before .before .before .before .before) in
-    (omega arith, s .stands, s .top, s .value nan)
+    let k = c .before .before .before .before .before .before .before in
+    let s = put k in
+    (omega arith, s .stands, s .top, s .value nan, start (accepted k .before .before) .pre .8)
 
 same-length-5 : tie.Need-same-length-5
 same-length-5 c = search needs

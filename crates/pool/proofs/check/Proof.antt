@@ -4,6 +4,7 @@ use mathlib.Core.Option.{Option}
 use native.Mathlib.Omega.{arith}
 use lib.ListN.{length}
 use Rattle.refusal.specs.declared.Refusal.{Refusal}
+use Rattle.protection.specs.Protected.{protectedRefusal}
 use Rattle.mom.specs.Map.{firstFault}
 use Rattle.refusal.specs.Checks.{orElse}
 use Rattle.refusal.proofs.Checks.{passes, refuses}
@@ -16,10 +17,13 @@ use Rattle.pool.proofs.check.Tie as tie
 
 -- ---- points on the way, and what is known there
 abbrev start : tie.After-check-settings → tie.Start
-start c = c .before .before .before .before .before
+start c = c .before .before .before .before .before .before
 
 abbrev settings : tie.Start → Option Refusal
 settings s = let a = s .args in settingsRefusal (a .left-depth) (a .right-depth) (a .depth-threshold) (a .chi2-threshold)
+
+abbrev list : tie.Start → Option Refusal
+list s = protectedRefusal 29 (s .args .protected .now)
 
 abbrev pairs : tie.Start → Option Refusal
 pairs s =
@@ -34,58 +38,89 @@ maps s =
 settings-pass : (c : tie.After-enum-told) (o : Option Refusal) → orElse (settings (start (c .before .before))) o ≡ o
 settings-pass c o = let s = c .before .before in passes (settings (start s)) o (s .check-settings .ensures) (c .enum-told .given .1)
 
-pairs-pass : (c : tie.After-enum-told2) (o : Option Refusal) → orElse (pairs (start (c .before .before .before .before .before))) o ≡ o
-pairs-pass c o = let p = c .before .before in passes (pairs (start (p .before .before .before))) o (p .check-pairs .ensures) (c .enum-told2 .given .1)
+list-pass : (c : tie.After-enum-told2) (o : Option Refusal) → orElse (list (start (c .before .before .before .before .before))) o ≡ o
+list-pass c o = let l = c .before .before in passes (list (start (l .before .before .before))) o (l .check-protected .ensures) (c .enum-told2 .given .1)
 
-maps-pass : (c : tie.After-enum-told3) (o : Option Refusal) → orElse (maps (start (c .before .before .before .before .before .before .before .before))) o ≡ o
-maps-pass c o = let m = c .before .before in passes (maps (start (m .before .before .before .before .before .before))) o (m .check-maps .ensures) (c .enum-told3 .given .1)
+pairs-pass : (c : tie.After-enum-told3) (o : Option Refusal) → orElse (pairs (start (c .before .before .before .before .before .before .before .before))) o ≡ o
+pairs-pass c o = let p = c .before .before in passes (pairs (start (p .before .before .before .before .before .before))) o (p .check-pairs .ensures) (c .enum-told3 .given .1)
+
+maps-pass : (c : tie.After-enum-told4) (o : Option Refusal) → orElse (maps (start (c .before .before .before .before .before .before .before .before .before .before .before))) o ≡ o
+maps-pass c o = let m = c .before .before in passes (maps (start (m .before .before .before .before .before .before .before .before .before))) o (m .check-maps .ensures) (c .enum-told4 .given .1)
 
 -- ---- the answers
-check-settings-requires : tie.Need-check-settings-requires
-check-settings-requires c κs = search needs
-
-enum-known-refusal : tie.Need-enum-known-refusal
-enum-known-refusal c = search needs
-
 returns : tie.Need-returns
 unfolding poolInputRefusal mapsRefusal
 returns c =
     let s = c .before .before .before in
     rw (refuses (settings (start s)) _ (s .check-settings .ensures) (c .before .refusal .given .1)) refl
 
-enum-told : tie.Need-enum-told
-enum-told c = search needs
-
-check-pairs-requires : tie.Need-check-pairs-requires
-check-pairs-requires c κs = search needs
-
-enum-known-refusal-2 : tie.Need-enum-known-refusal-2
-enum-known-refusal-2 c = search needs
-
 returns-2 : tie.Need-returns-2
 unfolding poolInputRefusal mapsRefusal
 returns-2 c =
-    let p = c .before .before .before in
-    rw (settings-pass (p .before) _, refuses (pairs (start (p .before .before .before))) _ (p .check-pairs .ensures) (c .before .refusal2 .given .1)) refl
-
-enum-told-2 : tie.Need-enum-told-2
-enum-told-2 c = search needs
-
-check-maps-requires : tie.Need-check-maps-requires
-check-maps-requires c κs = search needs
-
-enum-known-refusal-3 : tie.Need-enum-known-refusal-3
-enum-known-refusal-3 c = search needs
+    let l = c .before .before .before in
+    rw (settings-pass (l .before) _, refuses (list (start (l .before .before .before))) _ (l .check-protected .ensures) (c .before .refusal2 .given .1)) refl
 
 returns-3 : tie.Need-returns-3
 unfolding poolInputRefusal mapsRefusal
 returns-3 c =
+    let p = c .before .before .before in
+    let l = p .before .before .before in
+    rw (settings-pass (l .before) _, list-pass (p .before) _, refuses (pairs (start (l .before .before .before))) _ (p .check-pairs .ensures) (c .before .refusal3 .given .1)) refl
+
+returns-4 : tie.Need-returns-4
+unfolding poolInputRefusal mapsRefusal
+returns-4 c =
     let m = c .before .before .before in
     let p = m .before .before .before in
-    rw (settings-pass (p .before) _, pairs-pass (m .before) _, refuses (maps (start (p .before .before .before))) _ (m .check-maps .ensures) (c .before .refusal3 .given .1)) refl
+    let l = p .before .before .before in
+    rw (settings-pass (l .before) _, list-pass (p .before) _, pairs-pass (m .before) _, refuses (maps (start (l .before .before .before))) _ (m .check-maps .ensures) (c .before .refusal4 .given .1)) refl
+
+returns-5 : tie.Need-returns-5
+unfolding poolInputRefusal mapsRefusal
+returns-5 c =
+    let t = c .before .before .before in
+    let m = t .before .before in
+    let p = m .before .before .before in
+    let l = p .before .before .before in
+    let a = start (l .before .before .before) .args in
+    rw (settings-pass (l .before) _, list-pass (p .before) _, pairs-pass (m .before) _, maps-pass t _)
+    (sums-uncapped (a .left-counts .now) (a .right-counts .now) (c .check-sums .result) (rw (c .before .before .capped-sum .ensures, c .before .capped-sum2 .ensures) at (c .check-sums .ensures)))
+
+check-settings-requires : tie.Need-check-settings-requires
+check-settings-requires c κs = search needs
+
+enum-known-refusal : tie.Need-enum-known-refusal
+enum-known-refusal c = search needs
+
+enum-told : tie.Need-enum-told
+enum-told c = search needs
+
+check-protected-requires : tie.Need-check-protected-requires
+check-protected-requires c κs = search needs
+
+enum-known-refusal-2 : tie.Need-enum-known-refusal-2
+enum-known-refusal-2 c = search needs
+
+enum-told-2 : tie.Need-enum-told-2
+enum-told-2 c = search needs
+
+check-pairs-requires : tie.Need-check-pairs-requires
+check-pairs-requires c κs = search needs
+
+enum-known-refusal-3 : tie.Need-enum-known-refusal-3
+enum-known-refusal-3 c = search needs
 
 enum-told-3 : tie.Need-enum-told-3
 enum-told-3 c = search needs
+
+check-maps-requires : tie.Need-check-maps-requires
+check-maps-requires c κs = search needs
+
+enum-known-refusal-4 : tie.Need-enum-known-refusal-4
+enum-known-refusal-4 c = search needs
+
+enum-told-4 : tie.Need-enum-told-4
+enum-told-4 c = search needs
 
 capped-sum-requires : tie.Need-capped-sum-requires
 capped-sum-requires c κs = search needs
@@ -97,16 +132,6 @@ check-sums-requires : tie.Need-check-sums-requires
 unfolding cappedSum
 check-sums-requires c κs = (omega (arith, c .before .capped-sum .ensures), omega (arith, c .capped-sum2 .ensures))
 
-returns-4 : tie.Need-returns-4
-unfolding poolInputRefusal mapsRefusal
-returns-4 c =
-    let t = c .before .before .before in
-    let m = t .before .before in
-    let p = m .before .before .before in
-    let a = start (p .before .before .before) .args in
-    rw (settings-pass (p .before) _, pairs-pass (m .before) _, maps-pass t _)
-    (sums-uncapped (a .left-counts .now) (a .right-counts .now) (c .check-sums .result) (rw (c .before .before .capped-sum .ensures, c .before .capped-sum2 .ensures) at (c .check-sums .ensures)))
-
 pub check-spec : {M : Type 1} → statement M
 check-spec =
     tie.close
@@ -115,15 +140,19 @@ check-spec =
     enum-known-refusal
     returns
     enum-told
-    check-pairs-requires
+    check-protected-requires
     enum-known-refusal-2
     returns-2
     enum-told-2
-    check-maps-requires
+    check-pairs-requires
     enum-known-refusal-3
     returns-3
     enum-told-3
+    check-maps-requires
+    enum-known-refusal-4
+    returns-4
+    enum-told-4
     capped-sum-requires
     capped-sum-requires-2
     check-sums-requires
-    returns-4)
+    returns-5)

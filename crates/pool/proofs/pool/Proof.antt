@@ -15,7 +15,7 @@ use Rattle.pool.proofs.pool.Tie as tie
 
 -- ---- points on the way: the input is checked, and its total is known
 abbrev start : tie.After-check → tie.Start
-start c = c .before .before .before .before .before .before .before
+start c = c .before .before .before .before .before .before .before .before
 
 abbrev checked : tie.After-total → tie.After-check
 checked c = c .before .before
@@ -28,7 +28,7 @@ abbrev right : tie.Start → Given ℕ
 right s = record { depth = s .args .right-depth; zuniqs = s .args .right-zuniqs .now; values = s .args .right-counts .now }
 
 abbrev refusal : tie.Start → Option Refusal
-refusal s = let a = s .args in poolInputRefusal (left s) (right s) (a .depth-threshold) (a .chi2-threshold) (length (a .zuniqs .now)) (length (a .counts .now))
+refusal s = let a = s .args in poolInputRefusal (a .protected .now) (left s) (right s) (a .depth-threshold) (a .chi2-threshold) (length (a .zuniqs .now)) (length (a .counts .now))
 
 abbrev total : tie.Start → ℕ
 total s = sumOf (s .args .left-counts .now) + sumOf (s .args .right-counts .now)
@@ -53,9 +53,10 @@ pool-checked-requires c κs =
     let t = c .before .before .before in
     let s = start (checked t) in
     let a = s .args in
-    let p = pool-input-passes (left s) (right s) (a .depth-threshold) (a .chi2-threshold) _ _ (accepted t .0) .0 in
+    let q = pool-input-passes (a .protected .now) (left s) (right s) (a .depth-threshold) (a .chi2-threshold) _ _ (accepted t .0) in
+    let p = q .0 in
     let h = passed-holds (left s) (right s) _ _ p in
-    (h .0, h .1, passed-total (left s) (right s) (a .depth-threshold) (a .chi2-threshold) (a .zuniqs .now) (a .counts .now) p ∙ accepted t .1, p .paired)
+    (h .0, h .1, passed-total (a .protected .now) (left s) (right s) (a .depth-threshold) (a .chi2-threshold) (a .zuniqs .now) (a .counts .now) p ∙ accepted t .1, p .paired, q .2)
 
 returns : tie.Need-returns
 returns c =
@@ -63,7 +64,7 @@ returns c =
     let s = start o in
     let a = s .args in
     let r = c .before .refusal .given in
-    pool-refused (left s) (right s) (a .depth-threshold) (a .chi2-threshold) (a .zuniqs .now) (a .counts .now) (r .0 .0) (total-refused (refusal s) (total s) (r .0 .0) (sym (o .check .ensures) ∙ r .1))
+    pool-refused (a .protected .now) (left s) (right s) (a .depth-threshold) (a .chi2-threshold) (a .zuniqs .now) (a .counts .now) (r .0 .0) (total-refused (refusal s) (total s) (r .0 .0) (sym (o .check .ensures) ∙ r .1))
 
 same-length : tie.Need-same-length
 same-length c = search needs
@@ -77,7 +78,7 @@ returns-2 c =
     let t = k .before .before .before .before in
     let s = start (checked t) in
     let a = s .args in
-    pool-done (left s) (right s) (a .depth-threshold) (a .chi2-threshold) (a .zuniqs .now) (a .counts .now) (accepted t .0) _ (k .pool-checked .ensures)
+    pool-done (a .protected .now) (left s) (right s) (a .depth-threshold) (a .chi2-threshold) (a .zuniqs .now) (a .counts .now) (accepted t .0) _ (k .pool-checked .ensures)
 
 pub pool-spec : {M : Type 1} → statement M
 pool-spec =

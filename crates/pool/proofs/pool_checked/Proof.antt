@@ -14,7 +14,7 @@ use Rattle.pool.proofs.pool_checked.Tie as tie
 
 -- ---- points on the way: the cells are counted, there is space for them, the pool is made
 abbrev start : tie.After-pool-cells-arg2 → tie.Start
-start c = c .before .before .before .before .before .before .before .before
+start c = c .before .before .before .before .before .before .before .before .before
 
 abbrev counted : tie.Else1 → tie.After-pool-cells
 counted c = c .before .before .before .before .before
@@ -37,7 +37,7 @@ pool-cells-requires : tie.Need-pool-cells-requires
 pool-cells-requires c κs =
     let s = start c in
     let p = s .pre in
-    ((p .0, p .1, omega (arith, p .2, s .fits .total)), tt)
+    ((p .0, p .1, omega (arith, p .2, s .fits .total), p .4), tt)
 
 same-length : tie.Need-same-length
 same-length c = search needs
@@ -50,7 +50,7 @@ returns c =
     let o = c .before .before .before .before .before in
     let s = start (o .before) in
     let a = s .args in
-    pool-no-space (left s) (right s) (a .depth-threshold) (a .chi2-threshold) (a .zuniqs .now) (a .counts .now) _ _ _ (o .pool-cells .ensures) (c .if1 .taken)
+    pool-no-space (a .protected .now) (left s) (right s) (a .depth-threshold) (a .chi2-threshold) (a .zuniqs .now) (a .counts .now) _ _ _ (o .pool-cells .ensures) (c .if1 .taken)
 
 pool-cells-requires-2 : tie.Need-pool-cells-requires-2
 pool-cells-requires-2 c κs =
@@ -58,12 +58,15 @@ pool-cells-requires-2 c κs =
     let n = counted e .pool-cells .ensures in
     let s = start (counted e .before) in
     let p = s .pre in (
-      (p .0, p .1, omega (arith, p .2, s .fits .total)),
+      (p .0, p .1, omega (arith, p .2, s .fits .total), p .4),
       (omega (arith, e .if1 .left, n .0), omega (arith, e .if1 .left, n .0, ap length (n .1), ap length (n .2), p .3)),
     )
 
 mul-clear-zuniqs : tie.Need-mul-clear-zuniqs
-mul-clear-zuniqs c = search needs
+mul-clear-zuniqs c =
+    let m = c .before .before .before .before in
+    let o = counted (space m) in
+    record { fits = omega (arith, m .pool-cells2 .kept .1 .1 .1 .1 .1 .1 .0, o .pool-cells .kept .1 .1 .1 .1 .1 .1 .0, start (o .before) .good) }
 
 sub-clear-zuniqs : tie.Need-sub-clear-zuniqs
 sub-clear-zuniqs c = search needs
@@ -107,11 +110,11 @@ returns-2 c =
     let p = s .pre in
     let m = made c .pool-cells2 in
     let w = m .ensures in
-    pool-made (left s) (right s) (a .depth-threshold) (a .chi2-threshold) (a .zuniqs .now) (a .counts .now) _ _ _
+    pool-made (a .protected .now) (left s) (right s) (a .depth-threshold) (a .chi2-threshold) (a .zuniqs .now) (a .counts .now) _ _ _
     (p .0 .rises) (p .1 .rises) (o .pool-cells .ensures) (e .if1 .left) _ _ _ _ _ _ w
-    (m .kept .1 .1 .1 .1 .1 .0) (m .kept .1 .1 .1 .1 .1 .1 .0)
-    (cleared (m .result) (m .last .1 .1 .1 .1 .1 .0) _ 0 (w .stands .zuniqs) (c .before .before .before .before .before .before .clear-zuniqs .ensures))
-    (cleared (m .result) (m .last .1 .1 .1 .1 .1 .1 .0) _ 0 (w .stands .values) (c .before .before .clear-counts .ensures)) (p .2)
+    (m .kept .1 .1 .1 .1 .1 .1 .0) (m .kept .1 .1 .1 .1 .1 .1 .1 .0)
+    (cleared (m .result) (m .last .1 .1 .1 .1 .1 .1 .0) _ 0 (w .stands .zuniqs) (c .before .before .before .before .before .before .clear-zuniqs .ensures))
+    (cleared (m .result) (m .last .1 .1 .1 .1 .1 .1 .1 .0) _ 0 (w .stands .values) (c .before .before .clear-counts .ensures)) (p .2)
 
 pub pool-checked-spec : {M : Type 1} → statement M
 pool-checked-spec =

@@ -3,6 +3,7 @@ use mathlib.Core.Path.{_≡_, refl}
 use mathlib.Core.Option.{Option}
 use lib.ListN.{length}
 use Rattle.refusal.specs.declared.Refusal.{Refusal}
+use Rattle.protection.specs.Protected.{protectedRefusal}
 use Rattle.mom.specs.Map.{firstFault}
 use Rattle.refusal.specs.Checks.{orElse}
 use Rattle.refusal.proofs.Checks.{passes, refuses}
@@ -14,10 +15,13 @@ use Rattle.product.proofs.check.Tie as tie
 
 -- ---- points on the way, and what is known there
 abbrev start : tie.After-check-settings → tie.Start
-start c = c .before .before .before .before .before
+start c = c .before .before .before .before .before .before
 
 abbrev settings : tie.Start → Option Refusal
 settings s = let a = s .args in settingsRefusal (a .left-depth) (a .right-depth) (a .depth-threshold) (a .chi2-threshold)
+
+abbrev list : tie.Start → Option Refusal
+list s = protectedRefusal 29 (s .args .protected .now)
 
 abbrev pairs : tie.Start → Option Refusal
 pairs s =
@@ -35,11 +39,14 @@ settings-pass c o = let s = c .before .before in passes (settings (start s)) o (
 factor-pass : (c : tie.After-enum-told2) (o : Option Refusal) → orElse (factorRefusal (start (c .before .before .before .before .before) .args .k)) o ≡ o
 factor-pass c o = let k = c .before .before in passes (factorRefusal (start (k .before .before .before) .args .k)) o (k .check-factor .ensures) (c .enum-told2 .given .1)
 
-pairs-pass : (c : tie.After-enum-told3) (o : Option Refusal) → orElse (pairs (start (c .before .before .before .before .before .before .before .before))) o ≡ o
-pairs-pass c o = let p = c .before .before in passes (pairs (start (p .before .before .before .before .before .before))) o (p .check-pairs .ensures) (c .enum-told3 .given .1)
+list-passes : (c : tie.After-enum-told3) (o : Option Refusal) → orElse (list (start (c .before .before .before .before .before .before .before .before))) o ≡ o
+list-passes c o = let l = c .before .before in passes (list (start (l .before .before .before .before .before .before))) o (l .check-protected .ensures) (c .enum-told3 .given .1)
 
-maps-pass : (c : tie.After-enum-told4) (o : Option Refusal) → orElse (maps (start (c .before .before .before .before .before .before .before .before .before .before .before))) o ≡ o
-maps-pass c o = let m = c .before .before in passes (maps (start (m .before .before .before .before .before .before .before .before .before))) o (m .check-maps .ensures) (c .enum-told4 .given .1)
+pairs-pass : (c : tie.After-enum-told4) (o : Option Refusal) → orElse (pairs (start (c .before .before .before .before .before .before .before .before .before .before .before))) o ≡ o
+pairs-pass c o = let p = c .before .before in passes (pairs (start (p .before .before .before .before .before .before .before .before .before))) o (p .check-pairs .ensures) (c .enum-told4 .given .1)
+
+maps-pass : (c : tie.After-enum-told5) (o : Option Refusal) → orElse (maps (start (c .before .before .before .before .before .before .before .before .before .before .before .before .before .before))) o ≡ o
+maps-pass c o = let m = c .before .before in passes (maps (start (m .before .before .before .before .before .before .before .before .before .before .before .before))) o (m .check-maps .ensures) (c .enum-told5 .given .1)
 
 -- ---- the answers
 check-settings-requires : tie.Need-check-settings-requires
@@ -72,8 +79,8 @@ returns-2 c =
 enum-told-2 : tie.Need-enum-told-2
 enum-told-2 c = search needs
 
-check-pairs-requires : tie.Need-check-pairs-requires
-check-pairs-requires c κs = search needs
+check-protected-requires : tie.Need-check-protected-requires
+check-protected-requires c κs = search needs
 
 enum-known-refusal-3 : tie.Need-enum-known-refusal-3
 enum-known-refusal-3 c = search needs
@@ -81,15 +88,15 @@ enum-known-refusal-3 c = search needs
 returns-3 : tie.Need-returns-3
 unfolding productInputRefusal mapsRefusal mapDensitiesRefusal
 returns-3 c =
-    let p = c .before .before .before in
-    let k = p .before .before .before in
-    rw (settings-pass (k .before) _, factor-pass (p .before) _, refuses (pairs (start (k .before .before .before))) _ (p .check-pairs .ensures) (c .before .refusal3 .given .1)) refl
+    let l = c .before .before .before in
+    let k = l .before .before .before in
+    rw (settings-pass (k .before) _, factor-pass (l .before) _, refuses (list (start (k .before .before .before))) _ (l .check-protected .ensures) (c .before .refusal3 .given .1)) refl
 
 enum-told-3 : tie.Need-enum-told-3
 enum-told-3 c = search needs
 
-check-maps-requires : tie.Need-check-maps-requires
-check-maps-requires c κs = search needs
+check-pairs-requires : tie.Need-check-pairs-requires
+check-pairs-requires c κs = search needs
 
 enum-known-refusal-4 : tie.Need-enum-known-refusal-4
 enum-known-refusal-4 c = search needs
@@ -97,24 +104,43 @@ enum-known-refusal-4 c = search needs
 returns-4 : tie.Need-returns-4
 unfolding productInputRefusal mapsRefusal mapDensitiesRefusal
 returns-4 c =
-    let m = c .before .before .before in
-    let p = m .before .before .before in
-    let k = p .before .before .before in
-    rw (settings-pass (k .before) _, factor-pass (p .before) _, pairs-pass (m .before) _, refuses (maps (start (k .before .before .before))) _ (m .check-maps .ensures) (c .before .refusal4 .given .1)) refl
+    let p = c .before .before .before in
+    let l = p .before .before .before in
+    let k = l .before .before .before in
+    rw (settings-pass (k .before) _, factor-pass (l .before) _, list-passes (p .before) _, refuses (pairs (start (k .before .before .before))) _ (p .check-pairs .ensures) (c .before .refusal4 .given .1)) refl
 
 enum-told-4 : tie.Need-enum-told-4
 enum-told-4 c = search needs
 
-check-both-requires : tie.Need-check-both-requires
-check-both-requires c κs = search needs
+check-maps-requires : tie.Need-check-maps-requires
+check-maps-requires c κs = search needs
+
+enum-known-refusal-5 : tie.Need-enum-known-refusal-5
+enum-known-refusal-5 c = search needs
 
 returns-5 : tie.Need-returns-5
 unfolding productInputRefusal mapsRefusal mapDensitiesRefusal
 returns-5 c =
+    let m = c .before .before .before in
+    let p = m .before .before .before in
+    let l = p .before .before .before in
+    let k = l .before .before .before in
+    rw (settings-pass (k .before) _, factor-pass (l .before) _, list-passes (p .before) _, pairs-pass (m .before) _, refuses (maps (start (k .before .before .before))) _ (m .check-maps .ensures) (c .before .refusal5 .given .1)) refl
+
+enum-told-5 : tie.Need-enum-told-5
+enum-told-5 c = search needs
+
+check-both-requires : tie.Need-check-both-requires
+check-both-requires c κs = search needs
+
+returns-6 : tie.Need-returns-6
+unfolding productInputRefusal mapsRefusal mapDensitiesRefusal
+returns-6 c =
     let t = c .before in
     let m = t .before .before in
     let p = m .before .before .before in
-    rw (settings-pass (p .before .before .before .before) _, factor-pass (p .before) _, pairs-pass (m .before) _, maps-pass t _) (c .check-both .ensures)
+    let l = p .before .before .before in
+    rw (settings-pass (l .before .before .before .before) _, factor-pass (l .before) _, list-passes (p .before) _, pairs-pass (m .before) _, maps-pass t _) (c .check-both .ensures)
 
 pub check-spec : {M : Type 1} → statement M
 check-spec =
@@ -128,13 +154,17 @@ check-spec =
     enum-known-refusal-2
     returns-2
     enum-told-2
-    check-pairs-requires
+    check-protected-requires
     enum-known-refusal-3
     returns-3
     enum-told-3
-    check-maps-requires
+    check-pairs-requires
     enum-known-refusal-4
     returns-4
     enum-told-4
+    check-maps-requires
+    enum-known-refusal-5
+    returns-5
+    enum-told-5
     check-both-requires
-    returns-5)
+    returns-6)

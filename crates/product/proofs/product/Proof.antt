@@ -14,7 +14,7 @@ use Rattle.product.proofs.product.Tie as tie
 
 -- ---- points on the way: the input is checked
 abbrev start : tie.After-check → tie.Start
-start c = c .before .before .before .before .before .before .before
+start c = c .before .before .before .before .before .before .before .before
 
 abbrev checked : tie.After-enum-told → tie.After-check
 checked c = c .before .before
@@ -29,7 +29,7 @@ right s = record { depth = s .args .right-depth; zuniqs = s .args .right-zuniqs 
 abbrev refusal : tie.Start → Option Refusal
 refusal s =
     let a = s .args in
-    productInputRefusal (left s) (right s) (a .depth-threshold) (a .chi2-threshold) (a .k) (length (a .zuniqs .now)) (length (a .densities .now))
+    productInputRefusal (a .protected .now) (left s) (right s) (a .depth-threshold) (a .chi2-threshold) (a .k) (length (a .zuniqs .now)) (length (a .densities .now))
 
 accepted : (c : tie.After-enum-told) → refusal (start (checked c)) ≡ none
 accepted c = check-passed (refusal (start (checked c))) (sym (c .enum-told .given .1) ∙ checked c .check .ensures)
@@ -47,7 +47,7 @@ returns c =
     let s = start o in
     let a = s .args in
     let r = c .before .refusal .given in
-    product-refused (left s) (right s) (a .depth-threshold) (a .chi2-threshold) (a .k) (a .zuniqs .now) (a .densities .now) (r .0 .0) (check-refused (refusal s) (r .0 .0) (sym (r .1) ∙ o .check .ensures))
+    product-refused (a .protected .now) (left s) (right s) (a .depth-threshold) (a .chi2-threshold) (a .k) (a .zuniqs .now) (a .densities .now) (r .0 .0) (check-refused (refusal s) (r .0 .0) (sym (r .1) ∙ o .check .ensures))
 
 enum-told : tie.Need-enum-told
 enum-told c = search needs
@@ -57,9 +57,9 @@ product-checked-requires c κs =
     let t = c .before .before in
     let s = start (checked t) in
     let a = s .args in
-    let p = product-passes (left s) (right s) (a .depth-threshold) (a .chi2-threshold) (a .k) (a .zuniqs .now) (a .densities .now) (accepted t) in
-    let h = passed-holds (left s) (right s) _ _ p in
-    (h .0, h .1, p .paired)
+    let p = product-passes (a .protected .now) (left s) (right s) (a .depth-threshold) (a .chi2-threshold) (a .k) (a .zuniqs .now) (a .densities .now) (accepted t) in
+    let h = passed-holds (left s) (right s) _ _ (p .0) in
+    (h .0, h .1, p .0 .paired, p .1)
 
 same-length : tie.Need-same-length
 same-length c = search needs
@@ -73,7 +73,7 @@ returns-2 c =
     let t = k .before .before .before in
     let s = start (checked t) in
     let a = s .args in
-    product-done (left s) (right s) (a .depth-threshold) (a .chi2-threshold) (a .k) (a .zuniqs .now) (a .densities .now) (accepted t) _ (k .product-checked .ensures)
+    product-done (a .protected .now) (left s) (right s) (a .depth-threshold) (a .chi2-threshold) (a .k) (a .zuniqs .now) (a .densities .now) (accepted t) _ (k .product-checked .ensures)
 
 pub product-spec : {M : Type 1} → statement M
 product-spec =

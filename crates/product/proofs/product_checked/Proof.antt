@@ -15,7 +15,7 @@ use Rattle.product.proofs.product_checked.Tie as tie
 
 -- ---- points on the way: the cells are counted, there is space for them, the product is made
 abbrev start : tie.After-product-cells → tie.Start
-start c = c .before .before .before .before .before .before .before .before .before
+start c = c .before .before .before .before .before .before .before .before .before .before
 
 abbrev counted : tie.After-cells → tie.After-product-cells
 counted c = c .before .before .before .before .before .before
@@ -38,10 +38,10 @@ right s = entriesOf (s .args .right-zuniqs .now) (s .args .right-densities .now)
 
 -- the buffers as the product was made in them, and that it has places there
 abbrev zuniqs : tie.After-entries → List ℕ
-zuniqs c = made c .product-cells2 .last .1 .1 .1 .1 .1 .1 .0
+zuniqs c = made c .product-cells2 .last .1 .1 .1 .1 .1 .1 .1 .0
 
 abbrev densities : tie.After-entries → List Float
-densities c = made c .product-cells2 .last .1 .1 .1 .1 .1 .1 .1 .0
+densities c = made c .product-cells2 .last .1 .1 .1 .1 .1 .1 .1 .1 .0
 
 within : (c : tie.After-entries) → (c .entries .given .0 .0 ≤ length (zuniqs c)) × (c .entries .given .0 .0 ≤ length (densities c))
 within c =
@@ -50,7 +50,7 @@ within c =
     let o = counted k in
     let s = start o in
     let a = s .args in
-    product-within (left s) (right s) (a .depth-threshold) (a .chi2-threshold) (a .k) (a .zuniqs .now) (a .densities .now) _ _ (o .product-cells .result) (o .product-cells .ensures) (k .cells .given .0 .0) (k .cells .given .1) (m .product-cells2 .result) _ _ (m .product-cells2 .ensures) (c .entries .given .0 .0) (c .entries .given .1)
+    product-within (a .protected .now) (left s) (right s) (a .depth-threshold) (a .chi2-threshold) (a .k) (a .zuniqs .now) (a .densities .now) _ _ (o .product-cells .result) (o .product-cells .ensures) (k .cells .given .0 .0) (k .cells .given .1) (m .product-cells2 .result) _ _ (m .product-cells2 .ensures) (c .entries .given .0 .0) (c .entries .given .1)
 
 -- ---- the answers
 product-cells-requires : tie.Need-product-cells-requires
@@ -73,7 +73,7 @@ returns c =
     let o = c .before .before .before .before .before .before in
     let s = start o in
     let a = s .args in
-    product-not-finite (left s) (right s) (a .depth-threshold) (a .chi2-threshold) (a .k) (a .zuniqs .now) (a .densities .now) _ _ (o .product-cells .result) (o .product-cells .ensures) (c .enum-told .given .1)
+    product-not-finite (a .protected .now) (left s) (right s) (a .depth-threshold) (a .chi2-threshold) (a .k) (a .zuniqs .now) (a .densities .now) _ _ (o .product-cells .result) (o .product-cells .ensures) (c .enum-told .given .1)
 
 same-length-3 : tie.Need-same-length-3
 same-length-3 c = search needs
@@ -87,7 +87,7 @@ returns-2 c =
     let o = counted k in
     let s = start o in
     let a = s .args in
-    product-no-space (left s) (right s) (a .depth-threshold) (a .chi2-threshold) (a .k) (a .zuniqs .now) (a .densities .now) _ _ (o .product-cells .result) (o .product-cells .ensures) (k .cells .given .0 .0) (k .cells .given .1) (c .if1 .taken)
+    product-no-space (a .protected .now) (left s) (right s) (a .depth-threshold) (a .chi2-threshold) (a .k) (a .zuniqs .now) (a .densities .now) _ _ (o .product-cells .result) (o .product-cells .ensures) (k .cells .given .0 .0) (k .cells .given .1) (c .if1 .taken)
 
 product-cells-requires-2 : tie.Need-product-cells-requires-2
 product-cells-requires-2 c κs =
@@ -97,7 +97,7 @@ product-cells-requires-2 c κs =
     let s = start o in
     let a = s .args in
     let p = s .pre in
-    ((p .0, p .1), product-room (left s) (right s) (a .depth-threshold) (a .chi2-threshold) (a .k) (a .zuniqs .now) (a .densities .now) _ _ (o .product-cells .result) (o .product-cells .ensures) (k .cells .given .0 .0) (k .cells .given .1) (e .if1 .left) (p .2))
+    ((p .0, p .1, p .3), product-room (a .protected .now) (left s) (right s) (a .depth-threshold) (a .chi2-threshold) (a .k) (a .zuniqs .now) (a .densities .now) _ _ (o .product-cells .result) (o .product-cells .ensures) (k .cells .given .0 .0) (k .cells .given .1) (e .if1 .left) (p .2))
 
 enum-known-entries : tie.Need-enum-known-entries
 enum-known-entries c = search needs
@@ -118,14 +118,14 @@ returns-3 c =
     let o = counted k in
     let s = start o in
     let a = s .args in
-    absurd (product-finite (left s) (right s) (a .depth-threshold) (a .chi2-threshold) (a .k) (a .zuniqs .now) (a .densities .now) _ _ (o .product-cells .result) (o .product-cells .ensures) (k .cells .given .0 .0) (k .cells .given .1) (m .product-cells2 .result) _ _ (m .product-cells2 .ensures) (c .enum-told2 .given .1))
+    absurd (product-finite (a .protected .now) (left s) (right s) (a .depth-threshold) (a .chi2-threshold) (a .k) (a .zuniqs .now) (a .densities .now) _ _ (o .product-cells .result) (o .product-cells .ensures) (k .cells .given .0 .0) (k .cells .given .1) (m .product-cells2 .result) _ _ (m .product-cells2 .ensures) (c .enum-told2 .given .1))
 
 mul-clear-zuniqs : tie.Need-mul-clear-zuniqs
 mul-clear-zuniqs c =
     let e = c .before in
     let m = made e in
     let o = counted (number m) in
-    record { fits = omega (arith, within e .0, start o .good .1 .1 .1 .1 .1 .1 .1 .0, m .product-cells2 .kept .1 .1 .1 .1 .1 .1 .0, o .product-cells .kept .1 .1 .1 .1 .1 .1 .0) }
+    record { fits = omega (arith, within e .0, start o .good .1 .1 .1 .1 .1 .1 .1 .1 .0, m .product-cells2 .kept .1 .1 .1 .1 .1 .1 .1 .0, o .product-cells .kept .1 .1 .1 .1 .1 .1 .1 .0) }
 
 sub-clear-zuniqs : tie.Need-sub-clear-zuniqs
 sub-clear-zuniqs c = within (c .before) .0
@@ -144,7 +144,7 @@ mul-clear-densities c =
     let e = c .before .before .before .before .before in
     let m = made e in
     let o = counted (number m) in
-    record { fits = omega (arith, within e .1, start o .good .1 .1 .1 .1 .1 .1 .1 .1 .0, m .product-cells2 .kept .1 .1 .1 .1 .1 .1 .1 .0, o .product-cells .kept .1 .1 .1 .1 .1 .1 .1 .0) }
+    record { fits = omega (arith, within e .1, start o .good .1 .1 .1 .1 .1 .1 .1 .1 .1 .0, m .product-cells2 .kept .1 .1 .1 .1 .1 .1 .1 .1 .0, o .product-cells .kept .1 .1 .1 .1 .1 .1 .1 .1 .0) }
 
 sub-clear-densities : tie.Need-sub-clear-densities
 sub-clear-densities c = within (c .before .before .before .before .before) .1
@@ -173,9 +173,9 @@ returns-4 c =
     let o = counted k in
     let s = start o in
     let a = s .args in
-    product-made (left s) (right s) (a .depth-threshold) (a .chi2-threshold) (a .k) (a .zuniqs .now) (a .densities .now) _ _ (o .product-cells .result) (o .product-cells .ensures) (k .cells .given .0 .0) (k .cells .given .1)
+    product-made (a .protected .now) (left s) (right s) (a .depth-threshold) (a .chi2-threshold) (a .k) (a .zuniqs .now) (a .densities .now) _ _ (o .product-cells .result) (o .product-cells .ensures) (k .cells .given .0 .0) (k .cells .given .1)
     (m .product-cells2 .result) _ _ (m .product-cells2 .ensures) (n .0 .0) (n .1)
-    (space m .if1 .left) _ _ (m .product-cells2 .kept .1 .1 .1 .1 .1 .1 .0) (m .product-cells2 .kept .1 .1 .1 .1 .1 .1 .1 .0)
+    (space m .if1 .left) _ _ (m .product-cells2 .kept .1 .1 .1 .1 .1 .1 .1 .0) (m .product-cells2 .kept .1 .1 .1 .1 .1 .1 .1 .1 .0)
     (cleared (n .0 .0) (zuniqs e) _ 0 (within e .0) (c .before .before .before .before .before .before .clear-zuniqs .ensures))
     (cleared (n .0 .0) (densities e) _ 0·0 (within e .1) (c .before .before .clear-densities .ensures))
 

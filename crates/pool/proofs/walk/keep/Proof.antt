@@ -9,13 +9,13 @@ enum-told : tie.Need-enum-told
 enum-told c = search needs
 
 add-result : tie.Need-add-result
-add-result c = record { fits = rw (c .enum-told .given .1) at (c .before .before .before .before .pre .0) }
+add-result c = record { fits = rw (c .enum-told .given .1) at (c .before .before .before .before .before .pre .0) }
 
 enum-known-pass : tie.Need-enum-known-pass
 enum-known-pass c = search needs
 
 push-requires : tie.Need-push-requires
-push-requires c κs = let k = rw (c .before .before .before .pass .given .1) at (c .before .before .before .before .before .before .before .pre) in (k .0 .0, k .0 .1, k .0 .2, k .0 .3, k .1)
+push-requires c κs = let k = rw (c .before .before .before .pass .given .1) at (c .before .before .before .before .before .before .before .before .pre) in (k .0 .0, k .0 .1, k .0 .2, k .0 .3, k .1, k .2)
 
 returns : tie.Need-returns
 returns c = rw (c .enum-told .given .1) (refl, refl, refl)

@@ -4,6 +4,7 @@ use mathlib.Core.Path.{_≡_, refl, subst}
 use Prim.Native.Nat.{_≤_}
 use native.Mathlib.Omega.{arith}
 use borrow.Author.Needs.{needs}
+use Rattle.protection.specs.Protected.{RisingList}
 use Rattle.merger.specs.Merge.{acceptCounts}
 use Rattle.merger.proofs.Accept.{accepted-count-is-sum}
 use Rattle.combine.specs.Rules.{splitCount, poolRule}
@@ -20,12 +21,12 @@ use Rattle.pool.proofs.walk.pool_cells.Statement.{statement}
 use Rattle.pool.proofs.walk.pool_cells.Tie as tie
 
 abbrev Inv-loop : tie.InvT-loop
-Inv-loop left-zuniqs left-counts right-zuniqs right-counts pass zuniqs₀ counts₀ lefts₀ rights₀ left₀ right₀ n₀ zuniqs counts lefts rights left right n =
+Inv-loop left-zuniqs left-counts right-zuniqs right-counts pass protected zuniqs₀ counts₀ lefts₀ rights₀ left₀ right₀ n₀ zuniqs counts lefts rights left right n =
     Walking splitCount poolRule asEntry blank zuniqIn left-zuniqs left-counts right-zuniqs right-counts
-    (Wrote pass acceptCounts zuniqs₀ counts₀ n zuniqs counts) (sideOf left) (sideOf right) lefts rights
+    (Wrote pass (acceptCounts 29 protected) zuniqs₀ counts₀ n zuniqs counts) (sideOf left) (sideOf right) lefts rights
 
 abbrev μ-loop : tie.MeasureT-loop
-μ-loop left-zuniqs left-counts right-zuniqs right-counts pass zuniqs₀ counts₀ lefts₀ rights₀ left₀ right₀ n₀ zuniqs counts lefts rights left right n =
+μ-loop left-zuniqs left-counts right-zuniqs right-counts pass protected zuniqs₀ counts₀ lefts₀ rights₀ left₀ right₀ n₀ zuniqs counts lefts rights left right n =
     leftOver asEntry blank left-zuniqs left-counts right-zuniqs right-counts (sideOf left) (sideOf right) lefts rights
 
 -- ---- points of a turn, and what is known there
@@ -36,7 +37,7 @@ abbrev Fetched : Type 0
 Fetched = tie.After-next2 Inv-loop μ-loop
 
 abbrev start : Loop → tie.Start Inv-loop μ-loop
-start o = o .before .before .before .before .before .before .before .before .before
+start o = o .before .before .before .before .before .before .before .before .before .before
 
 abbrev loop : Fetched → Loop
 loop c = c .before .before .before .before .before .before
@@ -47,7 +48,7 @@ ReadyAt c =
     let o = loop c .loop in
     let a = start (loop c) .args in
     Ready splitCount poolRule asEntry blank zuniqIn (a .left-zuniqs .now) (a .left-counts .now) (a .right-zuniqs .now) (a .right-counts .now)
-    (Wrote (a .pass) acceptCounts (a .zuniqs .now) (a .counts .now) (o .n) (o .zuniqs) (o .counts))
+    (Wrote (a .pass) (acceptCounts 29 (a .protected .now)) (a .zuniqs .now) (a .counts .now) (o .n) (o .zuniqs) (o .counts))
     (sideOf (c .before .before .before .next .result)) (sideOf (c .next2 .result)) (o .lefts) (o .rights)
     (leftOver asEntry blank (a .left-zuniqs .now) (a .left-counts .now) (a .right-zuniqs .now) (a .right-counts .now) (sideOf (o .left)) (sideOf (o .right)) (o .lefts) (o .rights))
 
@@ -100,11 +101,14 @@ fits c s t = let p = start (loop c) .pre .0 in shown-fits (p .0) (p .1) (p .2) (
 abbrev Keeps : Fetched → Dhzv → Type 0
 Keeps c d =
     let o = loop c .loop in
-    let pass = start (loop c) .args .pass in
-    CanKeep pass (o .n) (zuniqIn d) (asEntry d) (o .zuniqs) (o .counts) × TotalFits pass (o .n) d (o .zuniqs) (o .counts)
+    let a = start (loop c) .args in
+    CanKeep (a .pass) (o .n) (zuniqIn d) (asEntry d) (o .zuniqs) (o .counts) × TotalFits (a .pass) (o .n) d (o .zuniqs) (o .counts) × RisingList (a .protected .now)
 
 keeps : (c : Fetched) (s : LhsRhsBoth) → ShowsAt c s → (d : Dhzv) → (asEntry d ≡ pooled s) × (zuniqIn d ≡ zuniqShown zuniqIn (sawOf s)) → Keeps c d
-keeps c s t d e = let p = start (loop c) .pre in shown-keeps (p .0 .0) (p .0 .1) (p .0 .2) (ready c) s t accepted-count-is-sum (p .1) d (e .0) (e .1)
+keeps c s t d e =
+    let p = start (loop c) .pre in
+    let k = shown-keeps (p .0 .0) (p .0 .1) (p .0 .2) (ready c) s t (accepted-count-is-sum 29 (start (loop c) .args .protected .now)) (p .1) d (e .0) (e .1) in
+    (k .0, k .1, p .0 .3)
 
 -- a head is split
 abbrev OpenedLeft : Type 0
@@ -133,7 +137,7 @@ pool-cells-spec =
     μ-loop
     -- both sides before their first entries
     (λ c κs. tt) (λ c κs. tt)
-    (λ c. let s = c .before .before .before .before .before .before .before .before in walking-start (c .before .start .ensures) (c .start2 .ensures) refl refl (s .pre .0 .0) (s .pre .0 .1) (wrote-nothing _ _ _ _))
+    (λ c. let s = c .before .before .before .before .before .before .before .before .before in walking-start (c .before .start .ensures) (c .start2 .ensures) refl refl (s .pre .0 .0) (s .pre .0 .1) (wrote-nothing _ _ _ _))
     -- the next head on the left
     (λ c κs. tt)
     (λ c. let r = c .before .loop .inv .state .on-left .room in let e = c .top .ensures in record { fits = omega arith })
@@ -160,7 +164,7 @@ pool-cells-spec =
     let w = ready (s .before .before .before .before) in
     let p = c .before .before .before .before .before .before .before .pool in
     let k = c .before .before .before .before .keep in
-    shown-kept w (seenLeft s) (shows-left s) (p .result) (p .ensures .0) (k .ensures) (k .kept .1 .1 .0) (k .kept .1 .1 .1 .0) refl (right-stays w))
+    shown-kept w (seenLeft s) (shows-left s) (p .result) (p .ensures .0) (k .ensures) (k .kept .1 .1 .1 .0) (k .kept .1 .1 .1 .1 .0) refl (right-stays w))
     -- the right one
     (λ c. search needs)
     (λ c κs. fits (c .before .before .before .before) (seenRight c) (shows-right c))
@@ -171,7 +175,7 @@ pool-cells-spec =
     let w = ready (s .before .before .before .before) in
     let p = c .before .before .before .before .before .before .before .pool2 in
     let k = c .before .before .before .before .keep2 in
-    shown-kept w (seenRight s) (shows-right s) (p .result) (p .ensures .0) (k .ensures) (k .kept .1 .1 .0) (k .kept .1 .1 .1 .0) (left-stays w) refl)
+    shown-kept w (seenRight s) (shows-right s) (p .result) (p .ensures .0) (k .ensures) (k .kept .1 .1 .1 .0) (k .kept .1 .1 .1 .1 .0) (left-stays w) refl)
     -- both
     (λ c. search needs)
     (λ c κs. fits (c .before .before .before .before) (seenBoth c) (shows-both c))
@@ -182,7 +186,7 @@ pool-cells-spec =
     let w = ready (s .before .before .before .before) in
     let p = c .before .before .before .before .before .before .before .pool3 in
     let k = c .before .before .before .before .keep3 in
-    shown-kept w (seenBoth s) (shows-both s) (p .result) (p .ensures .0) (k .ensures) (k .kept .1 .1 .0) (k .kept .1 .1 .1 .0) refl refl)
+    shown-kept w (seenBoth s) (shows-both s) (p .result) (p .ensures .0) (k .ensures) (k .kept .1 .1 .1 .0) (k .kept .1 .1 .1 .1 .0) refl refl)
     -- the left head is split
     (λ c. search needs)
     (λ c κs. let o = opening-left c in (o .good, o .deep, omega arith))

@@ -14,25 +14,28 @@ enum-told : tie.Need-enum-told
 enum-told c = search needs
 
 returns : tie.Need-returns
-returns c = let a = c .before .before .before .before .args in rw (c .enum-told .given .1) (no-cell-finite, outcome-none acceptDensities (a .pass) (a .n) (a .zuniqs .now) (a .densities .now) (rw (c .enum-told .given .1) at (c .before .before .before .before .pre)))
+returns c = let a = c .before .before .before .before .before .args in rw (c .enum-told .given .1) (no-cell-finite, outcome-none (acceptDensities (a .protected .now)) (a .pass) (a .n) (a .zuniqs .now) (a .densities .now) (rw (c .enum-told .given .1) at (c .before .before .before .before .before .pre .0)))
 
 not-finite-requires : tie.Need-not-finite-requires
 not-finite-requires c κs = search needs
 
 returns-2 : tie.Need-returns-2
-returns-2 c = let a = c .before .before .before .before .before .before .before .args in rw (c .before .before .before .answer .given .1) (one-not-finite _ _ (sym (c .before .not-finite .ensures) ∙ c .if1 .taken), untouched-same (a .pass) (a .zuniqs .now) (a .densities .now))
+returns-2 c = let a = c .before .before .before .before .before .before .before .before .args in rw (c .before .before .before .answer .given .1) (one-not-finite _ _ (sym (c .before .not-finite .ensures) ∙ c .if1 .taken), untouched-same (a .pass) (a .zuniqs .now) (a .densities .now))
 
 enum-told-2 : tie.Need-enum-told-2
 enum-told-2 c = search needs
 
-add-t11 : tie.Need-add-t11
-add-t11 c = record { fits = rw (c .before .before .before .before .before .answer .given .1, c .enum-told2 .given .1) at (c .before .before .before .before .before .before .before .before .before .pre) }
+add-t12 : tie.Need-add-t12
+add-t12 c = record { fits = rw (c .before .before .before .before .before .answer .given .1, c .enum-told2 .given .1) at (c .before .before .before .before .before .before .before .before .before .before .pre .0) }
 
 enum-known-pass : tie.Need-enum-known-pass
 enum-known-pass c = search needs
 
 push-requires : tie.Need-push-requires
-push-requires c κs = rw (c .before .before .before .before .before .before .before .before .answer .given .1, c .before .before .before .pass .given .1) at (c .before .before .before .before .before .before .before .before .before .before .before .before .pre)
+push-requires c κs =
+    let s = c .before .before .before .before .before .before .before .before .before .before .before .before .before in
+    let p = rw (c .before .before .before .before .before .before .before .before .answer .given .1, c .before .before .before .pass .given .1) at (s .pre .0) in
+    (p .0, p .1, p .2, p .3, s .pre .1)
 
 returns-3 : tie.Need-returns-3
 returns-3 c = rw (c .before .before .before .before .before .answer .given .1, c .enum-told2 .given .1) (one-not-finite _ _ (sym (c .before .before .before .not-finite .ensures) ∙ c .before .before .if1 .left), (refl, refl, refl))
@@ -60,7 +63,7 @@ keep-spec =
     not-finite-requires
     returns-2
     enum-told-2
-    add-t11
+    add-t12
     enum-known-pass
     push-requires
     returns-3

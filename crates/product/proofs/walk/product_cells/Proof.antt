@@ -15,12 +15,12 @@ use Rattle.product.proofs.walk.product_cells.Statement.{statement}
 use Rattle.product.proofs.walk.product_cells.Tie as tie
 
 abbrev Inv-loop : tie.InvT-loop
-Inv-loop left-zuniqs left-densities right-zuniqs right-densities k pass zuniqs₀ densities₀ lefts₀ rights₀ left₀ right₀ cells₀ zuniqs densities lefts rights left right cells =
+Inv-loop left-zuniqs left-densities right-zuniqs right-densities k pass protected zuniqs₀ densities₀ lefts₀ rights₀ left₀ right₀ cells₀ zuniqs densities lefts rights left right cells =
     Walking copyDensity (productRule k) asEntry blank zuniqIn left-zuniqs left-densities right-zuniqs right-densities
-    (WroteCells pass zuniqs₀ densities₀ cells zuniqs densities) (sideOf left) (sideOf right) lefts rights
+    (WroteCells protected pass zuniqs₀ densities₀ cells zuniqs densities) (sideOf left) (sideOf right) lefts rights
 
 abbrev μ-loop : tie.MeasureT-loop
-μ-loop left-zuniqs left-densities right-zuniqs right-densities k pass zuniqs₀ densities₀ lefts₀ rights₀ left₀ right₀ cells₀ zuniqs densities lefts rights left right cells =
+μ-loop left-zuniqs left-densities right-zuniqs right-densities k pass protected zuniqs₀ densities₀ lefts₀ rights₀ left₀ right₀ cells₀ zuniqs densities lefts rights left right cells =
     leftOver asEntry blank left-zuniqs left-densities right-zuniqs right-densities (sideOf left) (sideOf right) lefts rights
 
 -- ---- points of a turn, and what is known there
@@ -31,7 +31,7 @@ abbrev Fetched : Type 0
 Fetched = tie.After-next2 Inv-loop μ-loop
 
 abbrev start : Loop → tie.Start Inv-loop μ-loop
-start o = o .before .before .before .before .before .before .before .before .before
+start o = o .before .before .before .before .before .before .before .before .before .before
 
 abbrev loop : Fetched → Loop
 loop c = c .before .before .before .before .before .before .before .before .before
@@ -42,7 +42,7 @@ ReadyAt c x =
     let o = loop c .loop in
     let a = start (loop c) .args in
     Ready copyDensity (productRule (a .k)) asEntry blank zuniqIn (a .left-zuniqs .now) (a .left-densities .now) (a .right-zuniqs .now) (a .right-densities .now)
-    (WroteCells (a .pass) (a .zuniqs .now) (a .densities .now) x (o .zuniqs) (o .densities))
+    (WroteCells (a .protected .now) (a .pass) (a .zuniqs .now) (a .densities .now) x (o .zuniqs) (o .densities))
     (sideOf (c .before .before .before .next .result)) (sideOf (c .next2 .result)) (o .lefts) (o .rights)
     (leftOver asEntry blank (a .left-zuniqs .now) (a .left-densities .now) (a .right-zuniqs .now) (a .right-densities .now) (sideOf (o .left)) (sideOf (o .right)) (o .lefts) (o .rights))
 
@@ -117,7 +117,7 @@ product-cells-spec =
     μ-loop
     -- both sides before their first entries
     (λ c κs. tt) (λ c κs. tt)
-    (λ c. let s = c .before .before .before .before .before .before .before .before in walking-start (c .before .start .ensures) (c .start2 .ensures) refl refl (s .pre .0 .0) (s .pre .0 .1) (wrote-no-density _ _ _))
+    (λ c. let s = c .before .before .before .before .before .before .before .before .before in walking-start (c .before .start .ensures) (c .start2 .ensures) refl refl (s .pre .0 .0) (s .pre .0 .1) (wrote-no-density _ _ _ _))
     -- all cells so far are finite
     (λ c. search needs)
     -- the next head on the left
@@ -138,19 +138,19 @@ product-cells-spec =
     (λ c. ready-ends (ready (c .before .before .before)) (turned (c .before .before) _ (c .enum-told .given .1)) .outcome)
     -- the left head is shown
     (λ c. search needs)
-    (λ c κs. let s : ShownLeft = c .before .before in let f : Fetched = s .before .before .before .before in shown-keeps (ready f) (seenLeft s) (shows-left s) (start (loop f) .pre .1))
+    (λ c κs. let s : ShownLeft = c .before .before in let f : Fetched = s .before .before .before .before in (shown-keeps (ready f) (seenLeft s) (shows-left s) (start (loop f) .pre .1), start (loop f) .pre .0 .2))
     (λ c. let s : ShownLeft = c .before .before .before .before .before .before .before in let w = ready (s .before .before .before .before) in shown-less w (sawOf (seenLeft s)) (shows-left s) refl (right-stays w))
-    (λ c. let s : ShownLeft = c .before .before .before .before .before .before .before in let w = ready (s .before .before .before .before) in let k = c .before .before .before .before .show in shown-kept w (seenLeft s) (shows-left s) _ (k .ensures) (k .kept .1 .1 .1 .0) (k .kept .1 .1 .1 .1 .0) refl (right-stays w))
+    (λ c. let s : ShownLeft = c .before .before .before .before .before .before .before in let w = ready (s .before .before .before .before) in let k = c .before .before .before .before .show in shown-kept w (seenLeft s) (shows-left s) _ (k .ensures) (k .kept .1 .1 .1 .1 .0) (k .kept .1 .1 .1 .1 .1 .0) refl (right-stays w))
     -- the right one
     (λ c. search needs)
-    (λ c κs. let s : ShownRight = c .before .before in let f : Fetched = s .before .before .before .before in shown-keeps (ready f) (seenRight s) (shows-right s) (start (loop f) .pre .1))
+    (λ c κs. let s : ShownRight = c .before .before in let f : Fetched = s .before .before .before .before in (shown-keeps (ready f) (seenRight s) (shows-right s) (start (loop f) .pre .1), start (loop f) .pre .0 .2))
     (λ c. let s : ShownRight = c .before .before .before .before .before .before .before in let w = ready (s .before .before .before .before) in shown-less w (sawOf (seenRight s)) (shows-right s) (left-stays w) refl)
-    (λ c. let s : ShownRight = c .before .before .before .before .before .before .before in let w = ready (s .before .before .before .before) in let k = c .before .before .before .before .show2 in shown-kept w (seenRight s) (shows-right s) _ (k .ensures) (k .kept .1 .1 .1 .0) (k .kept .1 .1 .1 .1 .0) (left-stays w) refl)
+    (λ c. let s : ShownRight = c .before .before .before .before .before .before .before in let w = ready (s .before .before .before .before) in let k = c .before .before .before .before .show2 in shown-kept w (seenRight s) (shows-right s) _ (k .ensures) (k .kept .1 .1 .1 .1 .0) (k .kept .1 .1 .1 .1 .1 .0) (left-stays w) refl)
     -- both
     (λ c. search needs)
-    (λ c κs. let s : ShownBoth = c .before .before in let f : Fetched = s .before .before .before .before in shown-keeps (ready f) (seenBoth s) (shows-both s) (start (loop f) .pre .1))
+    (λ c κs. let s : ShownBoth = c .before .before in let f : Fetched = s .before .before .before .before in (shown-keeps (ready f) (seenBoth s) (shows-both s) (start (loop f) .pre .1), start (loop f) .pre .0 .2))
     (λ c. let s : ShownBoth = c .before .before .before .before .before .before .before in let w = ready (s .before .before .before .before) in shown-less w (sawOf (seenBoth s)) (shows-both s) refl refl)
-    (λ c. let s : ShownBoth = c .before .before .before .before .before .before .before in let w = ready (s .before .before .before .before) in let k = c .before .before .before .before .show3 in shown-kept w (seenBoth s) (shows-both s) _ (k .ensures) (k .kept .1 .1 .1 .0) (k .kept .1 .1 .1 .1 .0) refl refl)
+    (λ c. let s : ShownBoth = c .before .before .before .before .before .before .before in let w = ready (s .before .before .before .before) in let k = c .before .before .before .before .show3 in shown-kept w (seenBoth s) (shows-both s) _ (k .ensures) (k .kept .1 .1 .1 .1 .0) (k .kept .1 .1 .1 .1 .1 .0) refl refl)
     -- the left head is split
     (λ c. search needs)
     (λ c κs. let o = opening-left c in (o .good, o .deep, omega arith))

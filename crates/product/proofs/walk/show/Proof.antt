@@ -7,7 +7,7 @@ product-requires : tie.Need-product-requires
 product-requires c κs = search needs
 
 keep-requires : tie.Need-keep-requires
-keep-requires c κs = let p = c .before .before .product in c .before .before .before .before .before .pre (p .result) (p .ensures .0) (p .ensures .1)
+keep-requires c κs = let p = c .before .before .product in let s = c .before .before .before .before .before .before .pre in (s .0 (p .result) (p .ensures .0) (p .ensures .1), s .1)
 
 same-length : tie.Need-same-length
 same-length c = search needs
