@@ -18,11 +18,12 @@ pub extern "C" fn mom_pool(
     right_counts: &[u32],
     depth_threshold: u8,
     chi2_threshold: f64,
+    protected: &[u64],
     zuniqs: &mut [u64],
     counts: &mut [u32],
     total: &mut u32,
 ) -> u64
-    ensures { λ r. ⌜ (r, now (total .exit), now (zuniqs .exit), now (counts .exit)) ≡ countsAddedWord (poolCounts (record { depth = «left_depth»; zuniqs = now («left_zuniqs» .entry); values = now («left_counts» .entry) }) (record { depth = «right_depth»; zuniqs = now («right_zuniqs» .entry); values = now («right_counts» .entry) }) «depth_threshold» «chi2_threshold» (now (zuniqs .entry)) (now (counts .entry))) (now (total .entry)) ⌝ }
+    ensures { λ r. ⌜ (r, now (total .exit), now (zuniqs .exit), now (counts .exit)) ≡ countsAddedWord (poolCounts (now (protected .entry)) (record { depth = «left_depth»; zuniqs = now («left_zuniqs» .entry); values = now («left_counts» .entry) }) (record { depth = «right_depth»; zuniqs = now («right_zuniqs» .entry); values = now («right_counts» .entry) }) «depth_threshold» «chi2_threshold» (now (zuniqs .entry)) (now (counts .entry))) (now (total .entry)) ⌝ }
 {
     let pooled = pool(
         left_depth,
@@ -33,6 +34,7 @@ pub extern "C" fn mom_pool(
         right_counts,
         depth_threshold,
         chi2_threshold,
+        protected,
         zuniqs,
         counts,
     );
@@ -51,10 +53,11 @@ pub extern "C" fn mom_product(
     depth_threshold: u8,
     chi2_threshold: f64,
     k: f64,
+    protected: &[u64],
     zuniqs: &mut [u64],
     densities: &mut [f64],
 ) -> u64
-    ensures { λ r. ⌜ (r, now (zuniqs .exit), now (densities .exit)) ≡ densitiesAddedWord (productDensities (record { depth = «left_depth»; zuniqs = now («left_zuniqs» .entry); values = now («left_densities» .entry) }) (record { depth = «right_depth»; zuniqs = now («right_zuniqs» .entry); values = now («right_densities» .entry) }) «depth_threshold» «chi2_threshold» k (now (zuniqs .entry)) (now (densities .entry))) ⌝ }
+    ensures { λ r. ⌜ (r, now (zuniqs .exit), now (densities .exit)) ≡ densitiesAddedWord (productDensities (now (protected .entry)) (record { depth = «left_depth»; zuniqs = now («left_zuniqs» .entry); values = now («left_densities» .entry) }) (record { depth = «right_depth»; zuniqs = now («right_zuniqs» .entry); values = now («right_densities» .entry) }) «depth_threshold» «chi2_threshold» k (now (zuniqs .entry)) (now (densities .entry))) ⌝ }
 {
     densities_word(product(
         left_depth,
@@ -66,6 +69,7 @@ pub extern "C" fn mom_product(
         depth_threshold,
         chi2_threshold,
         k,
+        protected,
         zuniqs,
         densities,
     ))

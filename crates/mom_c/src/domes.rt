@@ -131,6 +131,7 @@ pub extern "C" fn mom32_add_counts(
     depth: u8,
     depth_threshold: u8,
     chi2_threshold: f64,
+    protected: &[u32],
     held: usize,
     zuniqs: &mut [u32],
     counts: &mut [u32],
@@ -138,12 +139,13 @@ pub extern "C" fn mom32_add_counts(
     batch: &[u32],
     total: &mut u32,
 ) -> u64
-    ensures { λ r. ⌜ (r, now (total .exit), now (zuniqs .exit), now (counts .exit)) ≡ countsAddedWord (addCounts 13 depth «depth_threshold» «chi2_threshold» held (now (zuniqs .entry)) (now (counts .entry)) (now (hashes .entry)) (now (batch .entry))) (now (total .entry)) ⌝ }
+    ensures { λ r. ⌜ (r, now (total .exit), now (zuniqs .exit), now (counts .exit)) ≡ countsAddedWord (addCounts 13 (now (protected .entry)) depth «depth_threshold» «chi2_threshold» held (now (zuniqs .entry)) (now (counts .entry)) (now (hashes .entry)) (now (batch .entry))) (now (total .entry)) ⌝ }
 {
     let added = add_counts(
         depth,
         depth_threshold,
         chi2_threshold,
+        protected,
         held,
         zuniqs,
         counts,

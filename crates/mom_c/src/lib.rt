@@ -74,24 +74,28 @@ pub extern "C" fn mom_are_overlapping(zuniq_l: u64, zuniq_r: u64) -> u64
     overlap_word(Zuniq64::are_overlapping(zuniq_l, zuniq_r))
 }
 
-// The count of four merged children, or that they are kept, with their chi-square.
+// The count of a parent's four merged children, or that they are kept, with their chi-square.
 #[no_mangle]
 pub extern "C" fn mom_chi2_count_merger(
     parent_depth: u8,
+    parent_hash: u64,
     depth_threshold: u8,
     chi2_threshold: f64,
+    protected: &[u64],
     n0: u32,
     n1: u32,
     n2: u32,
     n3: u32,
     chi2: &mut f64,
 ) -> u64
-    ensures { λ r. ⌜ (r, now (chi2 .exit)) ≡ countMergerWord (countMerger «depth_threshold» «chi2_threshold» «parent_depth» n0 n1 n2 n3) (now (chi2 .entry)) ⌝ }
+    ensures { λ r. ⌜ (r, now (chi2 .exit)) ≡ countMergerWord (countMerger (now (protected .entry)) «depth_threshold» «chi2_threshold» «parent_depth» «parent_hash» n0 n1 n2 n3) (now (chi2 .entry)) ⌝ }
 {
     let answer = chi2_count_merger(
         parent_depth,
+        parent_hash,
         depth_threshold,
         chi2_threshold,
+        protected,
         n0,
         n1,
         n2,
@@ -100,24 +104,28 @@ pub extern "C" fn mom_chi2_count_merger(
     count_merger_word(answer, chi2)
 }
 
-// The density of four merged children, or that they are kept, with their chi-square.
+// The density of a parent's four merged children, or that they are kept, with their chi-square.
 #[no_mangle]
 pub extern "C" fn mom_chi2_density_merger(
     parent_depth: u8,
+    parent_hash: u64,
     depth_threshold: u8,
     chi2_threshold: f64,
+    protected: &[u64],
     m0: f64,
     m1: f64,
     m2: f64,
     m3: f64,
     answer: &mut f64,
 ) -> u64
-    ensures { λ r. ⌜ (r, now (answer .exit)) ≡ densityMergerWord (densityMerger «depth_threshold» «chi2_threshold» «parent_depth» m0 m1 m2 m3) (now (answer .entry)) ⌝ }
+    ensures { λ r. ⌜ (r, now (answer .exit)) ≡ densityMergerWord (densityMerger (now (protected .entry)) «depth_threshold» «chi2_threshold» «parent_depth» «parent_hash» m0 m1 m2 m3) (now (answer .entry)) ⌝ }
 {
     let merged = chi2_density_merger(
         parent_depth,
+        parent_hash,
         depth_threshold,
         chi2_threshold,
+        protected,
         m0,
         m1,
         m2,
@@ -160,6 +168,7 @@ pub extern "C" fn mom_add_counts(
     depth: u8,
     depth_threshold: u8,
     chi2_threshold: f64,
+    protected: &[u64],
     held: usize,
     zuniqs: &mut [u64],
     counts: &mut [u32],
@@ -167,12 +176,13 @@ pub extern "C" fn mom_add_counts(
     batch: &[u32],
     total: &mut u32,
 ) -> u64
-    ensures { λ r. ⌜ (r, now (total .exit), now (zuniqs .exit), now (counts .exit)) ≡ countsAddedWord (addCounts 29 depth «depth_threshold» «chi2_threshold» held (now (zuniqs .entry)) (now (counts .entry)) (now (hashes .entry)) (now (batch .entry))) (now (total .entry)) ⌝ }
+    ensures { λ r. ⌜ (r, now (total .exit), now (zuniqs .exit), now (counts .exit)) ≡ countsAddedWord (addCounts 29 (now (protected .entry)) depth «depth_threshold» «chi2_threshold» held (now (zuniqs .entry)) (now (counts .entry)) (now (hashes .entry)) (now (batch .entry))) (now (total .entry)) ⌝ }
 {
     let added = add_counts(
         depth,
         depth_threshold,
         chi2_threshold,
+        protected,
         held,
         zuniqs,
         counts,
@@ -188,18 +198,20 @@ pub extern "C" fn mom_add_densities(
     depth: u8,
     depth_threshold: u8,
     chi2_threshold: f64,
+    protected: &[u64],
     held: usize,
     zuniqs: &mut [u64],
     densities: &mut [f64],
     hashes: &[u64],
     batch: &[f64],
 ) -> u64
-    ensures { λ r. ⌜ (r, now (zuniqs .exit), now (densities .exit)) ≡ densitiesAddedWord (addDensities depth «depth_threshold» «chi2_threshold» held (now (zuniqs .entry)) (now (densities .entry)) (now (hashes .entry)) (now (batch .entry))) ⌝ }
+    ensures { λ r. ⌜ (r, now (zuniqs .exit), now (densities .exit)) ≡ densitiesAddedWord (addDensities (now (protected .entry)) depth «depth_threshold» «chi2_threshold» held (now (zuniqs .entry)) (now (densities .entry)) (now (hashes .entry)) (now (batch .entry))) ⌝ }
 {
     densities_word(add_densities(
         depth,
         depth_threshold,
         chi2_threshold,
+        protected,
         held,
         zuniqs,
         densities,
