@@ -1,6 +1,6 @@
 //! What is worked on. A seed fixes every input, so that all runs time the same work.
 
-use differential::{random::Random, widths::Width};
+use differential::{cells::Cell, random::Random, widths::Width};
 use oracle::run;
 
 /// Poisson of that mean: how many uniform factors it takes to fall below e^−mean (Knuth).
@@ -29,6 +29,12 @@ impl<V: Copy, Z: Width> Cells<V, Z> {
 
     pub fn pairs(&self) -> impl Iterator<Item = (Z, V)> + '_ {
         self.hashes.iter().copied().zip(self.values.iter().copied())
+    }
+
+    pub fn cells(&self) -> impl Iterator<Item = Cell> + '_ {
+        let depth = self.depth;
+        let hashes = self.hashes.iter().map(|hash| hash.bits());
+        hashes.map(move |hash| Cell { depth, hash })
     }
 }
 
@@ -82,6 +88,28 @@ pub fn densities(cells: &Cells<u32>) -> Cells<f64> {
     }
 }
 
+/// So many of the cells that some cells lie in, up to three levels above them, each as likely as any other
+/// (Knuth's selection sampling). Four come up under most of them: some protect what would be merged,
+/// others what is kept anyway.
+pub fn parents_of<Z: Width>(cells: impl Iterator<Item = Cell>, number: usize) -> Vec<Z> {
+    let over = cells.flat_map(|cell| {
+        let depths = cell.depth.saturating_sub(3)..cell.depth;
+        depths.map(move |depth| cell.ancestor(depth).zuniq())
+    });
+    let mut parents: Vec<Z> = over.collect();
+    parents.sort();
+    parents.dedup();
+    let mut random = Random::new(16);
+    let (mut left, mut wanted) = (parents.len(), number);
+    parents.retain(|_| {
+        let is_chosen = random.below(left as u64) < wanted as u64;
+        left -= 1;
+        wanted -= usize::from(is_chosen);
+        is_chosen
+    });
+    parents
+}
+
 /// A valid map as the library has it, in two buffers.
 #[derive(Clone)]
 pub struct Map<V, Z = u64> {
@@ -102,6 +130,11 @@ impl<V: Copy, Z: Width> Map<V, Z> {
 
     pub fn len(&self) -> usize {
         self.zuniqs.len()
+    }
+
+    pub fn cells(&self) -> impl Iterator<Item = Cell> + '_ {
+        let zuniqs = self.zuniqs.iter();
+        zuniqs.filter_map(|&zuniq| Cell::of_zuniq(zuniq))
     }
 
     /// The same map as the original has it, in one vector.
@@ -136,7 +169,7 @@ pub fn count_map<Z: Width>(depth: u8, number: usize, seed: u64) -> Map<u32, Z> {
         .iter()
         .map(|&h| (Z::of(h), poisson(&mut random, 8.0)))
         .collect();
-    let mut entries = run::build_counts(depth, 0, 5.0, cells.into_iter());
+    let mut entries = run::build_counts(depth, 0, 5.0, run::unprotected, cells.into_iter());
     entries.truncate(number);
     Map::of(depth, &entries)
 }

@@ -19,7 +19,8 @@ fn main() {
         let (hash, count) = line.split_once(',').unwrap();
         (hash.parse::<u64>().unwrap(), count.parse::<u32>().unwrap())
     });
-    let entries = run::build_counts(depth as u8, m as u8, thousandths as f64 / 1000.0, cells);
+    let t = thousandths as f64 / 1000.0;
+    let entries = run::build_counts(depth as u8, m as u8, t, run::unprotected, cells);
     let mut printed = String::new();
     for &(zuniq, count) in &entries {
         let (depth, hash) = run::trait_from_zuniq::<u64>(zuniq);

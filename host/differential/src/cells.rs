@@ -91,10 +91,8 @@ impl Cell {
         }
     }
 
-    /// A cell of any depth: anywhere, near one of the two ends, with few bits set, or with a zuniq
-    /// one bit away from that of such a cell.
-    pub fn random<Z: Width>(random: &mut Random) -> Cell {
-        let depth = random.below(Z::DEPTH_MAX as u64 + 1) as u8;
+    /// A cell of a depth: anywhere, near one of the two ends, or with few bits set.
+    pub fn of_depth(depth: u8, random: &mut Random) -> Cell {
         let n = n_hash(depth);
         let hash = match random.below(4) {
             0 => random.below(n),
@@ -102,7 +100,13 @@ impl Cell {
             2 => n - 1 - random.below(n.min(16)),
             _ => (random.bits() & random.bits() & random.bits()) % n,
         };
-        let cell = Cell { depth, hash };
+        Cell { depth, hash }
+    }
+
+    /// A cell of any depth, or one with a zuniq one bit away from that of such a cell.
+    pub fn random<Z: Width>(random: &mut Random) -> Cell {
+        let depth = random.below(Z::DEPTH_MAX as u64 + 1) as u8;
+        let cell = Cell::of_depth(depth, random);
         if random.below(4) > 0 {
             return cell;
         }

@@ -10,6 +10,7 @@ pub mod kinds;
 pub mod lists;
 pub mod maps;
 pub mod pairs;
+pub mod protected;
 pub mod quads;
 pub mod random;
 pub mod reach;

@@ -1,9 +1,15 @@
-//! The values of four children, the depths and the thresholds that the mergers are compared on: all
-//! of some small sets, and random ones that gather where a fault would show. No call of ours refuses
-//! them. They are made by the scope's definitions alone, by neither of the two sides.
+//! The values of four children, the parents, the thresholds and the lists of protected parents that the
+//! mergers are compared on: all of some small sets, and random ones that gather where a fault would show.
+//! They are made by the scope's definitions alone, by neither of the two sides. Now and then one is given
+//! faults, for which the scope's table is the judge.
+
+use mom::Refusal;
 
 use crate::{
+    cells::{n_hash, Cell, DEPTH_MAX},
     floats::{magnitude, near, unit, Float},
+    lists::Value,
+    protected,
     random::{any_of, Random},
 };
 
@@ -17,13 +23,15 @@ pub struct Quad<V> {
 }
 
 /// All that a merger is asked.
-#[derive(Clone, Copy, Debug, PartialEq, Eq, PartialOrd, Ord)]
+#[derive(Clone, Debug, PartialEq, Eq, PartialOrd, Ord)]
 pub struct Call<V> {
     pub quad: Quad<V>,
     /// M
     pub depth_threshold: u8,
     /// T
     pub chi2_threshold: Float,
+    pub protected: Vec<u64>,
+    pub parent_hash: u64,
 }
 
 /// Parent depths with M: below it, at it and above it, at the first and at the last depths.
@@ -35,8 +43,9 @@ const USUAL: [f64; 5] = [6.251, 7.815, 9.348, 11.345, 16.266];
 /// Thresholds that the chi of a blank quad, which is 0, is not below.
 pub const NOT_ABOVE_0: [f64; 6] = [0.0, -0.0, -5e-324, -1.0, -f64::MAX, f64::NEG_INFINITY];
 
-impl<V: Copy> Call<V> {
-    /// T at chi and about it, at 0 and about it, and far from both.
+impl<V: Value> Call<V> {
+    /// T at chi and about it, at 0 and about it, and far from both; without a list, the parent being the
+    /// first of its depth.
     pub fn all(quad: Quad<V>, depth_threshold: u8, chi: f64) -> impl Iterator<Item = Self> {
         let about_chi = [chi.next_down(), chi, chi.next_up()];
         let apart = [0.0, 5e-324, 1.0, 3.5, 16.266, f64::MAX, f64::INFINITY];
@@ -48,10 +57,91 @@ impl<V: Copy> Call<V> {
                 quad,
                 depth_threshold,
                 chi2_threshold: Float(t),
+                protected: vec![],
+                parent_hash: 0,
             })
     }
 
-    /// M about the parent's depth and T about chi, both now and then far from it.
+    /// Under lists with the parent, and with what might be taken for it, at each end of a depth: where all
+    /// others would be merged, where T keeps them, and where M does.
+    pub fn listed(quad: Quad<V>) -> impl Iterator<Item = Self> {
+        let depth = quad.parent_depth;
+        let settings = [(0, f64::INFINITY), (0, 0.0), (depth + 1, f64::INFINITY)];
+        [0, n_hash(depth) - 1].into_iter().flat_map(move |hash| {
+            let parent = Cell { depth, hash };
+            lists_about(parent).into_iter().flat_map(move |protected| {
+                settings.map(|(m, t)| Call {
+                    quad,
+                    depth_threshold: m,
+                    chi2_threshold: Float(t),
+                    protected: protected.clone(),
+                    parent_hash: hash,
+                })
+            })
+        })
+    }
+
+    pub fn parent(&self) -> Cell {
+        Cell {
+            depth: self.quad.parent_depth,
+            hash: self.parent_hash,
+        }
+    }
+
+    /// What the table says of the call, in its order.
+    pub fn refusal(&self) -> Option<Refusal> {
+        self.refusal_by(protected::faulty_place)
+    }
+
+    /// The same, with another reading of row 15.
+    pub fn refusal_by(&self, faulty_place: fn(&[u64]) -> Option<usize>) -> Option<Refusal> {
+        let Quad {
+            values,
+            parent_depth,
+        } = self.quad;
+        let settings = [
+            (1, parent_depth > PARENT_DEPTH_MAX),
+            (2, self.depth_threshold > DEPTH_MAX),
+            (3, self.chi2_threshold.0.is_nan()),
+        ];
+        let setting = settings.into_iter().find(|&(_, refused)| refused);
+        let (number, place) = setting
+            .map(|(number, _)| (number, 0))
+            .or_else(|| faulty_place(&self.protected).map(|place| (15, place)))
+            .or_else(|| (self.parent_hash >= n_hash(parent_depth)).then_some((7, 0)))
+            .or_else(|| {
+                let invalid = values.iter().position(|value| value.is_invalid());
+                invalid.map(|child| (9, child))
+            })
+            .or_else(|| V::overflow(&[], &values).map(|_| (10, 0)))?;
+        Some(Refusal::of(number, place).unwrap())
+    }
+
+    /// Makes a change by which the call is refused, or may be.
+    fn change(&mut self, random: &mut Random) {
+        let past = n_hash(self.quad.parent_depth.min(DEPTH_MAX));
+        match random.below(10) {
+            0 => self.quad.parent_depth = any_of(random, &[29, 30, 255]),
+            1 => self.depth_threshold = any_of(random, &[30, 255]),
+            2 => self.chi2_threshold = Float(f64::NAN),
+            3 => self.quad.values[random.below(4) as usize] = any_of(random, V::faulty()),
+            4 | 5 => self.parent_hash = any_of(random, &[past, past + 1, 2 * past, u64::MAX]),
+            _ => protected::change(random, &mut self.protected),
+        }
+    }
+
+    /// Two faults now and then, so that their order shows.
+    fn with_faults(mut self, random: &mut Random) -> Self {
+        if random.below(8) == 0 {
+            for _ in 0..any_of(random, &[1, 1, 2]) {
+                self.change(random);
+            }
+        }
+        self
+    }
+
+    /// M about the parent's depth and T about chi, both now and then far from it; the list about the
+    /// parent.
     fn about(random: &mut Random, quad: Quad<V>, chi: f64) -> Self {
         let depth_threshold = match random.below(8) {
             0 => quad.parent_depth + 1,
@@ -62,12 +152,33 @@ impl<V: Copy> Call<V> {
         };
         let t = threshold(random, chi);
         let chi2_threshold = Float(if t.is_nan() { f64::INFINITY } else { t });
+        let parent = Cell::of_depth(quad.parent_depth, random);
+        let children = parent.children();
         Call {
             quad,
             depth_threshold,
             chi2_threshold,
+            protected: protected::random(random, &children),
+            parent_hash: parent.hash,
         }
     }
+}
+
+/// Rising lists: with the parent as the first, as the last, alone and amid what lies over and under it;
+/// and without it.
+fn lists_about(parent: Cell) -> Vec<Vec<u64>> {
+    let [first, .., last] = parent.children();
+    let neighbour = parent.neighbour();
+    let base = parent.ancestor(0);
+    [
+        &[parent][..],
+        &[parent, last, neighbour],
+        &[parent, first, base],
+        &[first, last, neighbour],
+        &[first],
+    ]
+    .map(protected::list_of)
+    .into()
 }
 
 fn threshold(random: &mut Random, chi: f64) -> f64 {
@@ -131,6 +242,11 @@ impl Quad<u32> {
 
 impl Call<u32> {
     pub fn random(random: &mut Random) -> Self {
+        Self::sound(random).with_faults(random)
+    }
+
+    /// No such call is refused.
+    pub fn sound(random: &mut Random) -> Self {
         match random.below(8) {
             0 => Self::blank(random),
             _ => Self::any(random),
@@ -246,6 +362,11 @@ impl Quad<Float> {
 
 impl Call<Float> {
     pub fn random(random: &mut Random) -> Self {
+        Self::sound(random).with_faults(random)
+    }
+
+    /// No such call is refused.
+    pub fn sound(random: &mut Random) -> Self {
         let quad = Quad::<Float>::random(random);
         Self::about(random, quad, quad.chi())
     }

@@ -49,7 +49,8 @@ pub struct Calls<Z: Width> {
     pub check_is_mom: fn(u8, &[Z]) -> Answer<MapCheck>,
     pub get_cell_containing: fn(u8, &[Z], Z) -> Answer<Option<usize>>,
     pub get_overlapped_cells: fn(&[Z], Z) -> Answer<(usize, &[Z])>,
-    pub add_counts: fn(u8, u8, f64, usize, &mut [Z], &mut [u32], &[Z], &[u32]) -> Answer<Added>,
+    pub add_counts:
+        fn(u8, u8, f64, &[Z], usize, &mut [Z], &mut [u32], &[Z], &[u32]) -> Answer<Added>,
     pub read_count_rows: fn(&[u8], &mut [Z], &mut [u32]) -> Answer<usize>,
     pub write_count_rows: fn(&[Z], &[u32], &mut [u8]) -> Answer<usize>,
     pub check_of_rows: fn(u8, &[u8]) -> Answer<MapCheck>,

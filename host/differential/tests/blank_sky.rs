@@ -24,7 +24,10 @@ fn no_merger_answers_otherwise_but_of_blanks_at_a_threshold_of_0_or_less() {
     let mut random = Random::new(41);
     let (mut compared, drawn) = (0, 100 * DRAWN);
     for _ in 0..drawn {
-        let call = Call::<u32>::random(&mut random);
+        let call = Call {
+            protected: vec![],
+            ..Call::<u32>::sound(&mut random)
+        };
         let (p, m) = (call.quad.parent_depth, call.depth_threshold);
         let (t, counts) = (call.chi2_threshold.0, call.quad.values);
         if counts == [0; 4] && p >= m && t <= 0.0 {
@@ -53,7 +56,7 @@ fn no_map_is_built_otherwise_at_a_threshold_above_0() {
             compared += 1;
             let (mut zuniqs, mut counts) = (vec![Z::of(0); batch.len()], vec![0; batch.len()]);
             let (z, n) = (&mut zuniqs, &mut counts);
-            let added = (Z::OURS.add_counts)(depth, m, t, 0, z, n, &hashes, &batch).unwrap();
+            let added = (Z::OURS.add_counts)(depth, m, t, &[], 0, z, n, &hashes, &batch).unwrap();
             let entries = zuniqs.into_iter().zip(counts).take(added.entries);
             let by_chi = run::build_counts_by_chi(depth, m, t, list.cells::<Z>().into_iter());
             assert_eq!(entries.collect::<Vec<_>>(), by_chi, "{list:?}");
@@ -69,7 +72,10 @@ fn no_pool_is_another_at_a_threshold_above_0() {
     let mut random = Random::new(43);
     let mut compared = 0;
     for _ in 0..DRAWN {
-        let input = Input::<u32>::random(&mut random);
+        let input = Input {
+            protected: vec![],
+            ..Input::<u32>::random(&mut random)
+        };
         let (m, t) = (input.depth_threshold, input.chi2_threshold.0);
         if t <= 0.0 || input.refusal().is_some() {
             continue;

@@ -1,5 +1,5 @@
-//! Every intended difference from the original, outside valid values and on blank sky, at its smallest
-//! input: what the original does where its arithmetic panics (`checked`) and where it wraps
+//! Every intended difference from the original, outside valid values, on blank sky and under protected
+//! parents, at its smallest input: what the original does where its arithmetic panics (`checked`) and where it wraps
 //! (`release`), and what ours answers.
 
 use std::{
@@ -7,7 +7,7 @@ use std::{
     panic::{catch_unwind, AssertUnwindSafe},
 };
 
-use mom::{rows, Added, CountMerge, Fault, MapCheck, Refusal};
+use mom::{rows, Added, CountMerge, DensityMerge, Fault, MapCheck, Refusal};
 use oracle::run;
 
 /// The first number past the last zuniq that doesn't end in 60 or more zeros.
@@ -123,19 +123,33 @@ fn are_overlapping_refuses_what_is_no_zuniq() {
     }
 }
 
+/// Ours under the first parent of a depth, with an empty list.
+fn count_merger(parent: u8, m: u8, t: f64, counts: [u32; 4]) -> Result<CountMerge, Refusal> {
+    mom::chi2_count_merger(parent, 0, m, t, &[], counts)
+}
+
+fn density_merger(parent: u8, m: u8, t: f64, densities: [f64; 4]) -> Result<DensityMerge, Refusal> {
+    mom::chi2_density_merger(parent, 0, m, t, &[], densities)
+}
+
 /// The original's count merger takes any depth; its density merger reads the number of cells one
 /// depth further down, where its table ends. At 255 that depth wraps to 0.
 #[test]
 fn the_mergers_refuse_a_parent_depth_over_28() {
     assert_eq!(run::merge_counts_by_chi(29, 0, 1.0, [0; 4]), Some(0));
-    assert_eq!(mom::chi2_count_merger(29, 0, 1.0, [0; 4]), refused(1, 0));
+    assert_eq!(count_merger(29, 0, 1.0, [0; 4]), refused(1, 0));
     for parent in [29, 254] {
-        assert!(panics(|| run::merge_densities(parent, 0, 1.0, [0.0; 4])));
-        let ours = mom::chi2_density_merger(parent, 0, 1.0, [0.0; 4]);
+        assert!(panics(|| run::merge_densities_by_chi(
+            parent, 0, 1.0, [0.0; 4]
+        )));
+        let ours = density_merger(parent, 0, 1.0, [0.0; 4]);
         assert_eq!(ours, refused(1, 0));
     }
-    assert_overflows(|| run::merge_densities(255, 0, 1.0, [0.0; 4]), Some(0.0));
-    let ours = mom::chi2_density_merger(255, 0, 1.0, [0.0; 4]);
+    assert_overflows(
+        || run::merge_densities_by_chi(255, 0, 1.0, [0.0; 4]),
+        Some(0.0),
+    );
+    let ours = density_merger(255, 0, 1.0, [0.0; 4]);
     assert_eq!(ours, refused(1, 0));
 }
 
@@ -143,9 +157,9 @@ fn the_mergers_refuse_a_parent_depth_over_28() {
 #[test]
 fn the_mergers_refuse_a_depth_threshold_over_29() {
     assert_eq!(run::merge_counts_by_chi(0, 30, 1.0, [0; 4]), None);
-    assert_eq!(mom::chi2_count_merger(0, 30, 1.0, [0; 4]), refused(2, 0));
-    assert_eq!(run::merge_densities(0, 30, 1.0, [0.0; 4]), None);
-    let ours = mom::chi2_density_merger(0, 30, 1.0, [0.0; 4]);
+    assert_eq!(count_merger(0, 30, 1.0, [0; 4]), refused(2, 0));
+    assert_eq!(run::merge_densities_by_chi(0, 30, 1.0, [0.0; 4]), None);
+    let ours = density_merger(0, 30, 1.0, [0.0; 4]);
     assert_eq!(ours, refused(2, 0));
 }
 
@@ -154,9 +168,9 @@ fn the_mergers_refuse_a_depth_threshold_over_29() {
 fn the_mergers_refuse_a_threshold_that_is_nan() {
     let t = f64::NAN;
     assert_eq!(run::merge_counts_by_chi(0, 0, t, [0; 4]), None);
-    assert_eq!(mom::chi2_count_merger(0, 0, t, [0; 4]), refused(3, 0));
-    assert_eq!(run::merge_densities(0, 0, t, [0.0; 4]), None);
-    let ours = mom::chi2_density_merger(0, 0, t, [0.0; 4]);
+    assert_eq!(count_merger(0, 0, t, [0; 4]), refused(3, 0));
+    assert_eq!(run::merge_densities_by_chi(0, 0, t, [0.0; 4]), None);
+    let ours = density_merger(0, 0, t, [0.0; 4]);
     assert_eq!(ours, refused(3, 0));
 }
 
@@ -165,7 +179,7 @@ fn the_count_merger_refuses_a_sum_that_overflows() {
     let counts = [u32::MAX, 1, 0, 0];
     let t = f64::INFINITY;
     assert_overflows(|| run::merge_counts_by_chi(0, 0, t, counts), Some(0));
-    assert_eq!(mom::chi2_count_merger(0, 0, t, counts), refused(10, 0));
+    assert_eq!(count_merger(0, 0, t, counts), refused(10, 0));
 }
 
 /// By T or by M: the original then never adds them up.
@@ -174,7 +188,7 @@ fn the_count_merger_refuses_a_sum_that_overflows_of_counts_that_are_kept() {
     let counts = [u32::MAX, 1, 0, 0];
     for (m, t) in [(0, 0.0), (1, f64::INFINITY)] {
         assert_eq!(run::merge_counts_by_chi(0, m, t, counts), None);
-        assert_eq!(mom::chi2_count_merger(0, m, t, counts), refused(10, 0));
+        assert_eq!(count_merger(0, m, t, counts), refused(10, 0));
     }
 }
 
@@ -187,13 +201,70 @@ const NOT_ABOVE_0: [f64; 5] = [0.0, -0.0, -5e-324, -1.0, f64::NEG_INFINITY];
 fn the_count_merger_merges_four_blanks_at_a_threshold_of_0_or_less() {
     for t in NOT_ABOVE_0 {
         assert_eq!(run::merge_counts_by_chi(0, 0, t, [0; 4]), None);
-        let ours = mom::chi2_count_merger(0, 0, t, [0; 4]);
+        let ours = count_merger(0, 0, t, [0; 4]);
         assert_eq!(ours, Ok(CountMerge::Merged(0)));
         for (m, counts, chi) in [(1, [0; 4], 0.0), (0, [0, 0, 0, 1], 1.0), (0, [4; 4], 0.0)] {
             assert_eq!(run::merge_counts_by_chi(0, m, t, counts), None);
-            let ours = mom::chi2_count_merger(0, m, t, counts);
+            let ours = count_merger(0, m, t, counts);
             assert_eq!(ours, Ok(CountMerge::Kept(chi)));
         }
+    }
+}
+
+/// The original has no list: it merges what ours keeps, with its chi.
+#[test]
+fn the_mergers_keep_four_under_a_listed_parent() {
+    let t = f64::INFINITY;
+    for (parent, hash) in [(0, 0), (0, 11), (28, 5)] {
+        let list = zuniqs([(parent, hash)]);
+        assert_eq!(run::merge_counts_by_chi(parent, 0, t, [4; 4]), Some(16));
+        let ours = mom::chi2_count_merger(parent, hash, 0, t, &list, [4; 4]);
+        assert_eq!(ours, Ok(CountMerge::Kept(0.0)));
+        let ours = mom::chi2_count_merger(parent, hash, 0, t, &list, [0; 4]);
+        assert_eq!(ours, Ok(CountMerge::Merged(0)));
+        // Above c at every depth, and without rounding.
+        let m = 2f64.powi(100);
+        let merged = run::merge_densities_by_chi(parent, 0, t, [m; 4]);
+        assert_eq!(merged, Some(m));
+        let ours = mom::chi2_density_merger(parent, hash, 0, t, &list, [m; 4]);
+        assert_eq!(ours, Ok(DensityMerge::Kept(0.0)));
+    }
+}
+
+/// The original's mergers make no use of the hash.
+#[test]
+fn the_mergers_refuse_a_parent_hash_out_of_range() {
+    for (parent, hash) in [(0, 12), (28, 12 << 56), (0, u64::MAX)] {
+        let merged = run::merge_counts((parent, hash), 0, 1.0, run::unprotected, [4; 4]);
+        assert_eq!(merged, Some(16));
+        let ours = mom::chi2_count_merger(parent, hash, 0, 1.0, &[], [4; 4]);
+        assert_eq!(ours, refused(7, 0));
+        let ours = mom::chi2_density_merger(parent, hash, 0, 1.0, &[], [4.0; 4]);
+        assert_eq!(ours, refused(7, 0));
+    }
+}
+
+/// Lists that are none, with the first place where they are not.
+const NO_LISTS: [(&[u64], usize); 6] = [
+    (&[0], 0),
+    (&[2], 0),
+    (&[PAST_LAST], 0),
+    (&[4, 1 << 60], 1),
+    (&[4, 4], 1),
+    (&[4, 20, 12], 2),
+];
+
+#[test]
+fn every_call_with_a_list_refuses_one_that_is_none() {
+    for (list, place) in NO_LISTS {
+        let ours = mom::chi2_count_merger(0, 0, 0, 1.0, list, [0; 4]);
+        assert_eq!(ours, refused(15, place));
+        let ours = mom::chi2_density_merger(0, 0, 0, 1.0, list, [0.0; 4]);
+        assert_eq!(ours, refused(15, place));
+        let ours = mom::add_counts(1, 0, 1.0, list, 0, &mut [], &mut [], &[], &[]);
+        assert_eq!(ours, refused(15, place));
+        let ours = mom::add_densities(1, 0, 1.0, list, 0, &mut [], &mut [], &[], &[]);
+        assert_eq!(ours, refused(15, place));
     }
 }
 
@@ -209,9 +280,9 @@ fn the_density_merger_refuses_what_is_below_0() {
         for child in 0..4 {
             let mut densities = [0.0; 4];
             densities[child] = faulty;
-            let answer = run::merge_densities(0, 0, 0.0, densities).map(f64::to_bits);
+            let answer = run::merge_densities_by_chi(0, 0, 0.0, densities).map(f64::to_bits);
             assert_eq!(answer, Some(f64::to_bits(density)), "{densities:?}");
-            let ours = mom::chi2_density_merger(0, 0, 0.0, densities);
+            let ours = density_merger(0, 0, 0.0, densities);
             assert_eq!(ours, refused(9, child));
         }
     }
@@ -225,8 +296,8 @@ fn the_density_merger_refuses_what_is_nan_or_infinite() {
         for child in 0..4 {
             let mut densities = [0.0; 4];
             densities[child] = faulty;
-            assert_eq!(run::merge_densities(0, 0, t, densities), None);
-            let ours = mom::chi2_density_merger(0, 0, t, densities);
+            assert_eq!(run::merge_densities_by_chi(0, 0, t, densities), None);
+            let ours = density_merger(0, 0, t, densities);
             assert_eq!(ours, refused(9, child));
         }
     }
@@ -335,7 +406,17 @@ fn added(
 ) -> (Result<Added, Refusal>, (u64, u32)) {
     let (hashes, batch): (Vec<u64>, Vec<u32>) = cells.iter().copied().unzip();
     let (mut zuniqs, mut counts) = ([77; 8], [77; 8]);
-    let answer = mom::add_counts(depth, m, t, 0, &mut zuniqs, &mut counts, &hashes, &batch);
+    let answer = mom::add_counts(
+        depth,
+        m,
+        t,
+        &[],
+        0,
+        &mut zuniqs,
+        &mut counts,
+        &hashes,
+        &batch,
+    );
     (answer, (zuniqs[0], counts[0]))
 }
 
@@ -343,7 +424,17 @@ fn added(
 fn our_counts((depth, m, t): (u8, u8, f64), cells: &[(u64, u32)]) -> Vec<(u64, u32)> {
     let (hashes, batch): (Vec<u64>, Vec<u32>) = cells.iter().copied().unzip();
     let (mut zuniqs, mut counts) = (vec![77; cells.len()], vec![77; cells.len()]);
-    let answer = mom::add_counts(depth, m, t, 0, &mut zuniqs, &mut counts, &hashes, &batch);
+    let answer = mom::add_counts(
+        depth,
+        m,
+        t,
+        &[],
+        0,
+        &mut zuniqs,
+        &mut counts,
+        &hashes,
+        &batch,
+    );
     let entries = zuniqs.into_iter().zip(counts);
     entries.take(answer.unwrap().entries).collect()
 }
@@ -426,6 +517,34 @@ fn add_counts_merges_blanks_at_a_threshold_of_0_or_less() {
     }
 }
 
+/// The original merges (1, 0) to (1, 3) into (0, 0); the list keeps them, and blanks it doesn't.
+#[test]
+fn the_add_calls_keep_four_under_a_listed_parent() {
+    let list = zuniqs([(0, 0)]);
+    let hashes = [0, 1, 2, 3];
+    let four = zuniqs(hashes.map(|hash| (1, hash)));
+    let t = f64::INFINITY;
+    for (count, entries) in [(1, 4), (0, 1)] {
+        let cells = hashes.map(|hash| (hash, count));
+        assert_eq!(original_built((1, 0, t), &cells).len(), 1);
+        let (mut zuniqs, mut counts) = ([77; 4], [77; 4]);
+        let (z, n) = (&mut zuniqs, &mut counts);
+        let ours = mom::add_counts(1, 0, t, &list, 0, z, n, &hashes, &[count; 4]);
+        let total = 4 * count;
+        assert_eq!(ours, Ok(Added { entries, total }));
+        assert!(count == 0 || (zuniqs, counts) == (four, [count; 4]));
+    }
+    for density in [0.0, 8.0] {
+        let cells = hashes.map(|hash| (hash, density));
+        assert_eq!(original_densities((1, 0, t), &cells).len(), 1);
+        let (mut zuniqs, mut densities) = ([77; 4], [77.0; 4]);
+        let (z, m) = (&mut zuniqs, &mut densities);
+        let ours = mom::add_densities(1, 0, t, &list, 0, z, m, &hashes, &[density; 4]);
+        assert_eq!(ours, Ok(4));
+        assert_eq!((zuniqs, densities), (four, [density; 4]));
+    }
+}
+
 /// What ours makes of one batch of densities, with places enough: a refusal that touches nothing.
 fn assert_densities_refused(
     (depth, m, t): (u8, u8, f64),
@@ -436,14 +555,14 @@ fn assert_densities_refused(
     let (hashes, batch): (Vec<u64>, Vec<f64>) = cells.iter().copied().unzip();
     let (mut zuniqs, mut densities) = ([77; 8], [77.0; 8]);
     let (z, d) = (&mut zuniqs, &mut densities);
-    let answer = mom::add_densities(depth, m, t, 0, z, d, &hashes, &batch);
+    let answer = mom::add_densities(depth, m, t, &[], 0, z, d, &hashes, &batch);
     assert_eq!(answer, refused(number, place));
     assert_eq!((zuniqs, densities), ([77; 8], [77.0; 8]));
 }
 
 /// The original's entries, with the bits of their densities.
 fn original_densities((depth, m, t): (u8, u8, f64), cells: &[(u64, f64)]) -> Vec<(u64, u64)> {
-    let entries = run::build_densities(depth, m, t, cells.iter().copied()).into_iter();
+    let entries = run::build_densities_by_chi(depth, m, t, cells.iter().copied()).into_iter();
     entries.map(|(zuniq, m)| (zuniq, m.to_bits())).collect()
 }
 
@@ -459,7 +578,7 @@ fn our_densities((depth, m, t): (u8, u8, f64), cells: &[(u64, f64)]) -> Vec<(u64
     let (hashes, batch): (Vec<u64>, Vec<f64>) = cells.iter().copied().unzip();
     let (mut zuniqs, mut densities) = (vec![77; cells.len()], vec![77.0; cells.len()]);
     let (z, d) = (&mut zuniqs, &mut densities);
-    let entries = mom::add_densities(depth, m, t, 0, z, d, &hashes, &batch).unwrap();
+    let entries = mom::add_densities(depth, m, t, &[], 0, z, d, &hashes, &batch).unwrap();
     let bits = densities.into_iter().map(f64::to_bits);
     zuniqs.into_iter().zip(bits).take(entries).collect()
 }

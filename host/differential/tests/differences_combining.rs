@@ -39,7 +39,12 @@ fn original((dl, left, dr, right, m, t): Pair) -> Entries<u32> {
 }
 
 /// Our answer, and the entries in both buffers where it is accepted; where not, that they are as before.
-fn ours((dl, left, dr, right, m, t): Pair) -> Result<Entries<u32>, Refusal> {
+fn ours(pair: Pair) -> Result<Entries<u32>, Refusal> {
+    ours_under(&[], pair)
+}
+
+/// The same under a list of protected parents.
+fn ours_under(list: &[u64], (dl, left, dr, right, m, t): Pair) -> Result<Entries<u32>, Refusal> {
     let (left_zuniqs, left_counts): (Vec<u64>, Vec<u32>) = left.iter().copied().unzip();
     let (right_zuniqs, right_counts): (Vec<u64>, Vec<u32>) = right.iter().copied().unzip();
     let left = Map {
@@ -53,7 +58,7 @@ fn ours((dl, left, dr, right, m, t): Pair) -> Result<Entries<u32>, Refusal> {
         values: &right_counts,
     };
     let (mut zuniqs, mut counts) = ([77; 8], [77; 8]);
-    let answer = pool(left, right, m, t, &mut zuniqs, &mut counts);
+    let answer = pool(left, right, m, t, list, &mut zuniqs, &mut counts);
     let entries = zuniqs.into_iter().zip(counts);
     let entries: Entries<u32> = match answer {
         Ok(added) => entries.take(added.entries).collect(),
@@ -181,7 +186,7 @@ fn the_pool_tries_the_last_quad_as_the_original_does() {
 /// The original's product of two maps of depth 0, with the bits of its densities.
 fn original_product(k: f64, left: &[(u64, f64)], right: &[(u64, f64)]) -> Vec<(u64, u64)> {
     let (left, right) = (run::mom(0, left.to_vec()), run::mom(0, right.to_vec()));
-    let entries = run::product(left, right, k, 0, 0.0).1.into_iter();
+    let entries = run::product_by_chi(left, right, k, 0, 0.0).1.into_iter();
     entries.map(|(zuniq, m)| (zuniq, m.to_bits())).collect()
 }
 
@@ -202,7 +207,7 @@ fn assert_product_refused(k: f64, left: f64, right: f64, number: u8) {
     let (mut zuniqs, mut densities) = ([77; 2], [77.0; 2]);
     let (left, right) = ([left], [right]);
     let (z, d) = (&mut zuniqs, &mut densities);
-    let answer = product(map(&left), map(&right), 0, 0.0, k, z, d);
+    let answer = product(map(&left), map(&right), 0, 0.0, k, &[], z, d);
     assert_eq!(answer, Err(Refusal::of(number, 0).unwrap()));
     assert_eq!((zuniqs, densities), ([77; 2], [77.0; 2]));
 }
@@ -235,4 +240,61 @@ fn the_product_refuses_what_is_not_finite() {
     assert_product_refused(1.0, f64::MAX, 2.0, 10);
     assert_product_refused(2.0, f64::MAX, 0.25, 10);
     assert_product_refused(2.0, f64::MAX, 0.0, 10);
+}
+
+/// The original merges, also what it has split first; ours keeps the four, but merges blanks.
+#[test]
+fn the_pool_keeps_four_under_a_listed_parent() {
+    let list = [run::to_zuniq(0, 0)];
+    let t = f64::INFINITY;
+    let (four, one) = (entries(&FOUR), entries(&[(1, 0, 0)]));
+    let (base, blank) = (entries(&[(0, 0, 4)]), entries(&[(0, 0, 0)]));
+    for (left, right) in [(&four[..], &NONE[..]), (&base, &one)] {
+        let pair = (1, left, 1, right, 0, t);
+        assert_eq!(
+            (original(pair), ours(pair)),
+            (base.clone(), Ok(base.clone()))
+        );
+        assert_eq!(ours_under(&list, pair), Ok(four.clone()));
+    }
+    let pair = (1, &blank[..], 1, &one[..], 0, t);
+    assert_eq!(ours_under(&list, pair), Ok(blank.clone()));
+}
+
+/// The original's own product takes no merger.
+#[test]
+fn the_product_keeps_four_under_a_listed_parent() {
+    let (zuniqs, _): (Vec<u64>, Vec<u32>) = entries(&FOUR).into_iter().unzip();
+    let base = run::to_zuniq(0, 0);
+    for density in [0.0, 8.0] {
+        let four: Vec<(u64, f64)> = zuniqs.iter().map(|&zuniq| (zuniq, density)).collect();
+        let (left, right) = (run::mom(1, four.clone()), run::mom(1, four));
+        let merged = run::product_by_chi(left, right, 1.0, 0, f64::INFINITY).1;
+        assert_eq!(merged, [(base, density * density)]);
+        let map = Map {
+            depth: 1,
+            zuniqs: &zuniqs,
+            values: &[density; 4],
+        };
+        let (mut z, mut m) = ([77; 4], [77.0; 4]);
+        let answer = product(map, map, 0, f64::INFINITY, 1.0, &[base], &mut z, &mut m);
+        assert_eq!(answer, Ok(4));
+        assert_eq!((&z[..], m), (&zuniqs[..], [density * density; 4]));
+    }
+}
+
+#[test]
+fn the_pool_and_the_product_refuse_a_list_that_is_none() {
+    let pair = (0, &NONE[..], 0, &NONE[..], 0, 1.0);
+    let empty = Map {
+        depth: 0,
+        zuniqs: &[],
+        values: &[],
+    };
+    for (list, place) in [(&[2][..], 0), (&[4, 1 << 60], 1), (&[4, 20, 12], 2)] {
+        let refusal = Refusal::of(15, place).unwrap();
+        assert_eq!(ours_under(list, pair), Err(refusal));
+        let answer = product(empty, empty, 0, 1.0, 1.0, list, &mut [], &mut []);
+        assert_eq!(answer, Err(refusal));
+    }
 }

@@ -178,7 +178,7 @@ fn built((depth, m, t): Setting, cells: &[(u32, u32)]) -> Result<Vec<(u32, u32)>
     let (hashes, batch): (Vec<u32>, Vec<u32>) = cells.iter().copied().unzip();
     let (mut zuniqs, mut counts) = ([77; 4], [77; 4]);
     let (z, n) = (&mut zuniqs, &mut counts);
-    let answer = narrow::add_counts(depth, m, t, 0, z, n, &hashes, &batch);
+    let answer = narrow::add_counts(depth, m, t, &[], 0, z, n, &hashes, &batch);
     if answer.is_err() {
         assert_eq!((zuniqs, counts), ([77; 4], [77; 4]));
     }
@@ -258,6 +258,37 @@ fn narrow_add_counts_merges_blanks_at_a_threshold_of_0_or_less() {
         assert_eq!(built((1, 0, t), &cells), Ok(vec![(1 << 26, 0)]));
         assert_eq!(original_built((1, 1, t), &cells), kept);
         assert_eq!(built((1, 1, t), &cells), Ok(kept.to_vec()));
+    }
+}
+
+/// The original merges four of 1; under a list ours keeps them, but not blanks.
+#[test]
+fn narrow_add_counts_keeps_four_under_a_listed_parent() {
+    let list = zuniqs([(0, 0)]);
+    let hashes = [0, 1, 2, 3];
+    for (count, entries) in [(1, 4), (0, 1)] {
+        let cells = hashes.map(|hash| (hash, count));
+        assert_eq!(original_built((1, 0, 3.5), &cells).len(), 1);
+        let (mut zuniqs, mut counts) = ([77; 4], [77; 4]);
+        let (z, n) = (&mut zuniqs, &mut counts);
+        let ours = narrow::add_counts(1, 0, 3.5, &list, 0, z, n, &hashes, &[count; 4]);
+        let total = 4 * count;
+        assert_eq!(ours, Ok(Added { entries, total }));
+    }
+}
+
+#[test]
+fn narrow_add_counts_refuses_a_list_that_is_none() {
+    for (list, place) in [
+        (&[0][..], 0),
+        (&[2], 0),
+        (&[PAST_LAST], 0),
+        (&[4, 1 << 28], 1),
+        (&[4, 4], 1),
+        (&[4, 20, 12], 2),
+    ] {
+        let ours = narrow::add_counts(1, 0, 3.5, list, 0, &mut [], &mut [], &[], &[]);
+        assert_eq!(ours, refused(15, place));
     }
 }
 

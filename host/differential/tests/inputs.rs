@@ -9,6 +9,7 @@ use differential::{
     kinds::{ClipInput, CountMerger, CoverInput, LayOutInput, MoveInput, Piece},
     lists::{Add, Build, Input, Value},
     maps::Map,
+    protected::faulty_place,
     quads::{unit_density, Call, Quad, PARENT_DEPTH_MAX},
     random::Random,
     reach::{clipped_by_tree, coverage_by_hash, coverage_of, hashes, SKY},
@@ -100,12 +101,12 @@ fn no_answer_of_the_overlap_test_is_rare() {
 
 fn drawn_counts() -> impl Iterator<Item = Call<u32>> {
     let mut random = Random::new(4);
-    (0..DRAWN).map(move |_| Call::<u32>::random(&mut random))
+    (0..DRAWN).map(move |_| Call::<u32>::sound(&mut random))
 }
 
 fn drawn_densities() -> impl Iterator<Item = Call<Float>> {
     let mut random = Random::new(5);
-    (0..DRAWN).map(move |_| Call::<Float>::random(&mut random))
+    (0..DRAWN).map(move |_| Call::<Float>::sound(&mut random))
 }
 
 /// The parent depth, M, chi and T of all of them.
@@ -256,6 +257,111 @@ fn no_blank_quad_at_a_threshold_of_0_or_less_is_rare() {
     }
 }
 
+/// Whether the parent is in the list, and the cells of the list are as `is` asks.
+fn is_listed<V: Value>(call: &Call<V>, is: impl Fn(Cell, &[Cell]) -> bool) -> bool {
+    let cells = call.protected.iter();
+    let cells: Vec<Cell> = cells.filter_map(|&zuniq| Cell::of_zuniq(zuniq)).collect();
+    cells.contains(&call.parent()) && is(call.parent(), &cells)
+}
+
+/// What counts and densities have in common.
+fn classes_of_lists<V: Value>() -> Vec<Class<Call<V>>> {
+    vec![
+        ("empty", |call| call.protected.is_empty()),
+        ("over 20", |call| call.protected.len() > 20),
+        ("alone", |call| is_listed(call, |_, cells| cells.len() == 1)),
+        ("the first", |call| {
+            is_listed(call, |parent, cells| cells.len() > 1 && cells[0] == parent)
+        }),
+        ("the last", |call| {
+            is_listed(call, |parent, cells| {
+                cells.len() > 1 && cells[cells.len() - 1] == parent
+            })
+        }),
+        ("among over 20", |call| {
+            is_listed(call, |_, cells| cells.len() > 20)
+        }),
+        ("in another one", |call| {
+            is_listed(call, |parent, cells| {
+                let mut others = cells.iter();
+                others.any(|cell| cell.depth < parent.depth && cell.overlaps(parent))
+            })
+        }),
+        ("over another one", |call| {
+            is_listed(call, |parent, cells| {
+                let mut others = cells.iter();
+                others.any(|cell| cell.depth > parent.depth && cell.overlaps(parent))
+            })
+        }),
+        ("the last parent of a depth", |call| {
+            is_listed(call, |parent, _| parent.hash + 1 == n_hash(parent.depth))
+        }),
+        ("merged but for the list", |call| {
+            let above = call.quad.parent_depth >= call.depth_threshold;
+            let chi = V::chi2(call.quad.values, call.quad.parent_depth);
+            is_listed(call, |_, _| above && chi < call.chi2_threshold.0)
+        }),
+        ("a child in place of the parent", |call| {
+            let mut children = call.parent().children().into_iter();
+            let listed = |cell: Cell| call.protected.contains(&cell.zuniq());
+            !listed(call.parent()) && children.any(listed)
+        }),
+        ("its hash at another depth", |call| {
+            let cells = call.protected.iter();
+            let mut cells = cells.filter_map(|&zuniq| Cell::of_zuniq(zuniq));
+            let parent = call.parent();
+            cells.any(|cell| cell.hash == parent.hash && cell.depth != parent.depth)
+        }),
+    ]
+}
+
+#[test]
+fn no_list_of_protected_parents_is_rare() {
+    let mut classes = classes_of_lists::<u32>();
+    classes.extend([(
+        "blanks under a listed parent",
+        (|call| is_listed(call, |_, _| is_blank(call, |above, _| above >= 0)))
+            as fn(&Call<u32>) -> bool,
+    )]);
+    assert_none_is_rare(drawn_counts(), &classes);
+    assert_none_is_rare(drawn_densities(), &classes_of_lists());
+}
+
+fn is_refused_call<V: Value>(call: &Call<V>, number: u8) -> bool {
+    let refusal = call.refusal();
+    refusal.is_some_and(|refusal| refusal.number() == number)
+}
+
+#[test]
+fn no_refusal_of_a_merger_is_rare() {
+    fn classes<V: Value>(own: Class<Call<V>>) -> Vec<Class<Call<V>>> {
+        vec![
+            ("none", |call| call.refusal().is_none()),
+            ("1", |call| is_refused_call(call, 1)),
+            ("2", |call| is_refused_call(call, 2)),
+            ("3", |call| is_refused_call(call, 3)),
+            ("15", |call| is_refused_call(call, 15)),
+            ("15 past place 0", |call| {
+                let place = faulty_place(&call.protected);
+                is_refused_call(call, 15) && place.is_some_and(|place| place > 0)
+            }),
+            ("15 and 7", |call| {
+                is_refused_call(call, 15) && call.parent_hash >= n_hash(call.quad.parent_depth)
+            }),
+            ("7", |call| is_refused_call(call, 7)),
+            ("7 by one", |call| {
+                is_refused_call(call, 7) && call.parent_hash == n_hash(call.quad.parent_depth)
+            }),
+            own,
+        ]
+    }
+    let mut random = Random::new(21);
+    let counts = (0..DRAWN).map(|_| Call::<u32>::random(&mut random));
+    assert_none_is_rare(counts, &classes(("10", |call| is_refused_call(call, 10))));
+    let densities = (0..DRAWN).map(|_| Call::<Float>::random(&mut random));
+    assert_none_is_rare(densities, &classes(("9", |call| is_refused_call(call, 9))));
+}
+
 #[test]
 fn no_densities_are_rare() {
     let drawn = drawn_densities().map(|call| {
@@ -368,6 +474,8 @@ struct Step<V> {
     depth_threshold: u8,
     /// T
     chi2_threshold: f64,
+    /// The cells of the list.
+    protected: Vec<Cell>,
     refusal: Option<Refusal>,
     /// The entries before the call.
     held: Vec<(Cell, V)>,
@@ -377,6 +485,8 @@ struct Step<V> {
 
 fn steps_of<V: Build<Z>, Z: Width>(input: &Input<V, Z>) -> Vec<Step<V>> {
     let mut held = Vec::new();
+    let protected = input.protected.iter();
+    let protected: Vec<Cell> = protected.filter_map(|&z| Cell::of_zuniq(z)).collect();
     let steps = Add::<V, Z>::original(input).into_iter();
     steps
         .map(|(answer, zuniqs, values)| {
@@ -388,6 +498,7 @@ fn steps_of<V: Build<Z>, Z: Width>(input: &Input<V, Z>) -> Vec<Step<V>> {
                 depth: input.depth,
                 depth_threshold: input.depth_threshold,
                 chi2_threshold: input.chi2_threshold.0,
+                protected: protected.clone(),
                 refusal: answer.err(),
                 held: held.clone(),
                 entries: entries.clone(),
@@ -425,6 +536,67 @@ impl<V: Value> Step<V> {
     fn merged(&self, is: impl Fn(V) -> bool) -> bool {
         let mut entries = self.entries.iter();
         entries.any(|&(cell, value)| cell.depth < self.depth && is(value))
+    }
+
+    /// Whether four stay that would be merged but for the list, and their parent is as `is` asks.
+    fn keeps_listed(&self, is: impl Fn(Cell) -> bool) -> bool {
+        self.entries.windows(4).any(|four| {
+            let first = four[0].0;
+            let Some(depth) = first.depth.checked_sub(1) else {
+                return false;
+            };
+            let parent = first.ancestor(depth);
+            let chi = V::chi2([0, 1, 2, 3].map(|child: usize| four[child].1), depth);
+            four.iter().map(|entry| entry.0).eq(parent.children())
+                && depth >= self.depth_threshold
+                && chi < self.chi2_threshold
+                && self.protected.contains(&parent)
+                && is(parent)
+        })
+    }
+
+    /// What lists show with counts and densities.
+    fn classes_of_lists() -> Vec<Class<Self>> {
+        vec![
+            ("15", |step| step.is_refused(15)),
+            ("15 past place 0", |step| step.is_refused_past_0(15)),
+            ("no list", |step| {
+                step.refusal.is_none() && step.protected.is_empty()
+            }),
+            ("over 20 listed", |step| {
+                step.refusal.is_none() && step.protected.len() > 20
+            }),
+            ("kept by the list", |step| step.keeps_listed(|_| true)),
+            ("kept among over 20", |step| {
+                step.protected.len() > 20 && step.keeps_listed(|_| true)
+            }),
+            ("kept after a merge", |step| {
+                step.keeps_listed(|parent| parent.depth + 1 < step.depth)
+            }),
+            ("kept by the first of several", |step| {
+                let several = step.protected.len() > 1;
+                several && step.keeps_listed(|parent| step.protected[0] == parent)
+            }),
+            ("kept by the last of several", |step| {
+                let several = step.protected.len() > 1;
+                several && step.keeps_listed(|parent| step.protected.last() == Some(&parent))
+            }),
+            ("kept inside another listed one", |step| {
+                step.keeps_listed(|parent| {
+                    let mut others = step.protected.iter();
+                    others.any(|cell| cell.depth < parent.depth && cell.overlaps(parent))
+                })
+            }),
+            ("kept across batches", |step| {
+                step.keeps_listed(|parent| {
+                    let held = step.held.iter().filter(|(cell, _)| cell.overlaps(parent));
+                    (1..4).contains(&held.count())
+                })
+            }),
+            ("merged beside a listed one", |step| {
+                step.merges() > 0 && step.keeps_listed(|_| true)
+            }),
+        ]
     }
 
     /// What counts and densities have in common.
@@ -477,6 +649,26 @@ fn no_refusal_and_no_kind_of_building_is_rare_among_counts() {
     }
     at::<u64>();
     at::<u32>();
+}
+
+#[test]
+fn no_protection_is_rare_in_building() {
+    fn at<Z: Width>() {
+        let mut classes = Step::<u32>::classes_of_lists();
+        classes.extend([(
+            "blanks merged into a listed one",
+            (|step| {
+                let mut entries = step.entries.iter();
+                entries.any(|&(cell, count)| {
+                    count == 0 && cell.depth < step.depth && step.protected.contains(&cell)
+                })
+            }) as fn(&Step<u32>) -> bool,
+        )]);
+        assert_none_is_rare(drawn_steps::<u32, Z>(22), &classes);
+    }
+    at::<u64>();
+    at::<u32>();
+    assert_none_is_rare(drawn_steps::<Float, u64>(23), &Step::classes_of_lists());
 }
 
 impl Step<u32> {

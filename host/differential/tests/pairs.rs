@@ -105,6 +105,71 @@ impl<V: Combine> Drawn<V> {
         self.judged.0.is_ok()
     }
 
+    fn listed(&self) -> Vec<Cell> {
+        let list = self.input.protected.iter();
+        list.filter_map(|&zuniq| Cell::of_zuniq(zuniq)).collect()
+    }
+
+    /// Whether four stay that would be merged but for the list, and their parent is as `is` asks.
+    fn keeps_listed(&self, is: impl Fn(Cell, &[Cell]) -> bool) -> bool {
+        let listed = self.listed();
+        self.entries().windows(4).any(|four| {
+            let first = four[0].0;
+            let Some(depth) = first.depth.checked_sub(1) else {
+                return false;
+            };
+            let parent = first.ancestor(depth);
+            let chi = V::chi2([0, 1, 2, 3].map(|child: usize| four[child].1), depth);
+            four.iter().map(|entry| entry.0).eq(parent.children())
+                && depth >= self.input.depth_threshold
+                && chi < self.input.chi2_threshold.0
+                && listed.contains(&parent)
+                && is(parent, &listed)
+        })
+    }
+
+    /// What lists show with counts and densities.
+    fn classes_of_lists() -> Vec<Class<V>> {
+        vec![
+            ("15", |pair| pair.is_refused(15)),
+            ("15 past place 0", |pair| pair.is_refused_past_0(15)),
+            ("no list", |pair| {
+                pair.is_accepted() && pair.input.protected.is_empty()
+            }),
+            ("over 20 listed", |pair| {
+                pair.is_accepted() && pair.input.protected.len() > 20
+            }),
+            ("kept by the list", |pair| pair.keeps_listed(|_, _| true)),
+            ("kept after a merge", |pair| {
+                pair.keeps_listed(|parent, _| {
+                    let mut seen = pair.seen.iter().map(|seen| seen.cell);
+                    seen.any(|cell| cell.depth > parent.depth + 1 && cell.overlaps(parent))
+                })
+            }),
+            ("kept after a split", |pair| {
+                pair.keeps_listed(|parent, _| {
+                    let zuniqs = [&pair.input.left.zuniqs, &pair.input.right.zuniqs];
+                    zuniqs.iter().any(|zuniqs| zuniqs.contains(&parent.zuniq()))
+                })
+            }),
+            ("kept by the first of several", |pair| {
+                pair.keeps_listed(|parent, list| list.len() > 1 && list[0] == parent)
+            }),
+            ("kept by the last of several", |pair| {
+                pair.keeps_listed(|parent, list| list.len() > 1 && list.last() == Some(&parent))
+            }),
+            ("kept inside another listed one", |pair| {
+                pair.keeps_listed(|parent, list| {
+                    let mut others = list.iter();
+                    others.any(|cell| cell.depth < parent.depth && cell.overlaps(parent))
+                })
+            }),
+            ("merged beside a listed one", |pair| {
+                pair.merges() > 0 && pair.keeps_listed(|_, _| true)
+            }),
+        ]
+    }
+
     /// What counts and densities have in common.
     fn classes() -> Vec<Class<V>> {
         vec![
@@ -246,6 +311,22 @@ const BLANK_POOLS: &[Class<u32>] = &[
 #[test]
 fn no_blank_sky_at_a_threshold_of_0_or_less_is_rare_among_pools() {
     assert_none_is_rare(&drawn(25), BLANK_POOLS);
+}
+
+#[test]
+fn no_protection_is_rare_in_combining() {
+    let mut classes = Drawn::<u32>::classes_of_lists();
+    classes.extend([(
+        "blanks merged into a listed one",
+        (|pair| {
+            let listed = pair.listed();
+            let is_split = |cell: Cell| pair.seen.iter().all(|seen| seen.cell != cell);
+            let mut entries = pair.entries().into_iter();
+            entries.any(|(cell, count)| count == 0 && listed.contains(&cell) && is_split(cell))
+        }) as fn(&Drawn<u32>) -> bool,
+    )]);
+    assert_none_is_rare(&drawn(26), &classes);
+    assert_none_is_rare(&drawn(27), &Drawn::<Float>::classes_of_lists());
 }
 
 #[test]

@@ -2,6 +2,8 @@
 //! often enough for a short run to find it. What is right stands here a third time, so that each
 //! wrong one differs from it in one thing.
 
+mod readings;
+
 use differential::{
     cells::Cell,
     compare::Kind,
@@ -11,6 +13,7 @@ use differential::{
     widths::Width,
 };
 use mom::Refusal;
+use readings::{early, is_listed, late, wrong_checks, wrong_searches, Search};
 
 const DRAWN: usize = 5_000;
 
@@ -35,6 +38,10 @@ struct Program<V: Value, Z> {
     merges: fn(i16, f64, f64) -> bool,
     /// Whether the four are merged whatever their chi is.
     merges_blank: fn(&Arguments<V, Z>, Four<V>) -> bool,
+    /// Whether four are kept by the list of protected parents.
+    is_listed: Search<Z>,
+    /// Whether four are merged: that are blank, that are listed, and by their chi.
+    decides: fn(bool, bool, bool) -> bool,
     merged: fn([V; 4]) -> V,
     /// How many places behind the last entry are cleared: of zuniqs, and of values.
     cleared: fn(usize) -> [usize; 2],
@@ -55,6 +62,8 @@ impl<V: Value, Z: Width> Program<V, Z> {
             merges_blank: |call, four| {
                 four.parent_depth >= call.depth_threshold && V::are_blank(four.values)
             },
+            is_listed,
+            decides: |blank, listed, by_chi| blank || !listed && by_chi,
             merged,
             cleared: |places| [places; 2],
             judge: |due, _| due.map(Err),
@@ -112,9 +121,11 @@ impl<V: Value, Z: Width> Program<V, Z> {
             parent_depth: depth,
             values,
         };
-        let merges = (self.merges)(above, chi, call.chi2_threshold);
-        let merges = merges || (self.merges_blank)(call, four);
-        merges.then(|| (a.0.ancestor(depth), (self.merged)(values)))
+        let parent = a.0.ancestor(depth);
+        let by_chi = (self.merges)(above, chi, call.chi2_threshold);
+        let listed = (self.is_listed)(call.protected, parent);
+        let merges = (self.decides)((self.merges_blank)(call, four), listed, by_chi);
+        merges.then(|| (parent, (self.merged)(values)))
     }
 
     fn steps(&self, input: &Input<V, Z>) -> Vec<Step<V, Z>> {
@@ -153,6 +164,57 @@ impl<V: Build<Z>, Z: Width> Drawn<V, Z> {
             "{wrong}, {}: {differing} of {DRAWN}",
             V::NAME
         );
+    }
+
+    /// A program that refuses as `refusal` says, and is right in all else.
+    fn assert_refusal_is_found(
+        &self,
+        wrong: &str,
+        merged: fn([V; 4]) -> V,
+        refusal: impl Fn(&Arguments<V, Z>) -> Option<Refusal>,
+    ) {
+        let right = Program::right(merged);
+        let lists = self.0.iter().filter(|(input, _)| {
+            let (mut map, mut differs) = (Vec::new(), false);
+            replay(input, |call, due| {
+                differs |= refusal(&call) != due;
+                right.add(&mut map, call, due)
+            });
+            differs
+        });
+        let differing = lists.count();
+        assert!(
+            differing * 1000 > DRAWN,
+            "{wrong}, {}: {differing} of {DRAWN}",
+            V::NAME
+        );
+    }
+
+    /// Wrong readings of note 7 that counts and densities have in common.
+    fn assert_protection_is_found(&self, merged: fn([V; 4]) -> V) {
+        assert_eq!(self.differing(&Program::right(merged)), 0);
+        for (wrong, is_listed) in wrong_searches() {
+            let program = Program {
+                is_listed,
+                ..Program::right(merged)
+            };
+            self.assert_found(wrong, program);
+        }
+        for (wrong, check) in wrong_checks() {
+            self.assert_refusal_is_found(wrong, merged, |call| call.refusal_by(check));
+        }
+        for number in [4, 5, 7, 8, 11] {
+            let wrong = format!("15 after {number}");
+            self.assert_refusal_is_found(&wrong, merged, |call| {
+                late(number, call.refusal(), call.refusal_by(|_| None))
+            });
+        }
+        for number in [1, 2, 3] {
+            let wrong = format!("15 before {number}");
+            self.assert_refusal_is_found(&wrong, merged, |call| {
+                early(number, call.refusal(), call.protected)
+            });
+        }
     }
 
     /// What counts and densities have in common.
@@ -288,6 +350,22 @@ fn no_wrong_four_of_blank_sky_are_missed() {
 
 fn is_blank<Z>(call: &Arguments<u32, Z>, four: &Four<u32>) -> bool {
     four.parent_depth >= call.depth_threshold && four.values == [0; 4]
+}
+
+#[test]
+fn no_wrong_protection_is_missed() {
+    fn at<Z: Width>() {
+        let drawn = Drawn::<u32, Z>::new(35);
+        drawn.assert_protection_is_found(sum);
+        let protected_first = Program {
+            decides: |blank, listed, by_chi| !listed && (blank || by_chi),
+            ..Program::right(sum)
+        };
+        drawn.assert_found("protection before blanks", protected_first);
+    }
+    at::<u64>();
+    at::<u32>();
+    Drawn::<Float, u64>::new(36).assert_protection_is_found(quarter);
 }
 
 /// What a narrow call answers that takes depths up to 29: where nothing else is refused, that the map

@@ -2,6 +2,8 @@
 //! the scope's table often enough for a short run to find it. What is right stands here a third time,
 //! so that each wrong one differs from it in one thing.
 
+mod readings;
+
 use differential::{
     cells::Cell,
     floats::Float,
@@ -10,6 +12,7 @@ use differential::{
     random::Random,
 };
 use mom::Refusal;
+use readings::{early, is_listed, late, wrong_checks, wrong_searches, Search};
 
 const DRAWN: usize = 5_000;
 
@@ -24,6 +27,10 @@ struct Program<V: Combine> {
     merges: fn(i16, f64, f64) -> bool,
     /// Whether the four children of a parent of that depth are merged whatever their chi is.
     merges_blank: fn(&Input<V>, u8, [V; 4]) -> bool,
+    /// Whether four are kept by the list of protected parents.
+    is_listed: Search<u64>,
+    /// Whether four are merged: that are blank, that are listed, and by their chi.
+    decides: fn(bool, bool, bool) -> bool,
     merged: fn([V; 4]) -> V,
     /// How many places behind the last entry are cleared: of zuniqs, and of values.
     cleared: fn(usize) -> [usize; 2],
@@ -53,6 +60,8 @@ impl<V: Combine> Program<V> {
             merges_blank: |input, parent, values| {
                 parent >= input.depth_threshold && V::are_blank(values)
             },
+            is_listed,
+            decides: |blank, listed, by_chi| blank || !listed && by_chi,
             merged: V::merged,
             cleared: |places| [places; 2],
             refuse: |refusal, _, _| refusal,
@@ -92,9 +101,12 @@ impl<V: Combine> Program<V> {
         let depth = a.0.depth - 1;
         let above = depth as i16 - input.depth_threshold as i16;
         let chi = V::chi2(values, depth);
-        let merges = (self.merges)(above, chi, input.chi2_threshold.0);
-        let merges = merges || (self.merges_blank)(input, depth, values);
-        merges.then(|| (a.0.ancestor(depth), (self.merged)(values)))
+        let parent = a.0.ancestor(depth);
+        let by_chi = (self.merges)(above, chi, input.chi2_threshold.0);
+        let blank = (self.merges_blank)(input, depth, values);
+        let listed = (self.is_listed)(&input.protected, parent);
+        let merges = (self.decides)(blank, listed, by_chi);
+        merges.then(|| (parent, (self.merged)(values)))
     }
 
     fn step(&self, input: &Input<V>, refusal: Option<Refusal>) -> Step<V> {
@@ -160,7 +172,7 @@ impl<V: Combine> Drawn<V> {
     }
 
     /// A program that refuses as `refusal` says, and is right in all else.
-    fn assert_refusal_is_found(&self, wrong: &str, refusal: fn(&Input<V>) -> Option<Refusal>) {
+    fn assert_refusal_is_found(&self, wrong: &str, refusal: impl Fn(&Input<V>) -> Option<Refusal>) {
         let pairs = self.0.iter();
         let differing = pairs
             .filter(|(input, right, _)| refusal(input) != *right)
@@ -170,6 +182,33 @@ impl<V: Combine> Drawn<V> {
             "{wrong}, {}: {differing} of {DRAWN}",
             V::CALL
         );
+    }
+
+    /// Wrong readings of note 7 that counts and densities have in common.
+    fn assert_protection_is_found(&self) {
+        assert_eq!(self.differing(&Program::right()), 0);
+        for (wrong, is_listed) in wrong_searches() {
+            let program = Program {
+                is_listed,
+                ..Program::right()
+            };
+            self.assert_found(wrong, program);
+        }
+        for (wrong, check) in wrong_checks() {
+            self.assert_refusal_is_found(wrong, |input| input.refusal_by(check));
+        }
+        for number in [4, 5] {
+            let wrong = format!("15 after {number}");
+            self.assert_refusal_is_found(&wrong, |input| {
+                late(number, input.refusal(), input.refusal_by(|_| None))
+            });
+        }
+        for number in [1, 2, 3] {
+            let wrong = format!("15 before {number}");
+            self.assert_refusal_is_found(&wrong, |input| {
+                early(number, input.refusal(), &input.protected)
+            });
+        }
     }
 
     /// What counts and densities have in common.
@@ -347,6 +386,18 @@ fn no_wrong_rule_of_blank_sky_is_missed() {
     found!("four that are equal", |input, parent, counts| {
         parent >= input.depth_threshold && counts == [counts[0]; 4]
     });
+}
+
+#[test]
+fn no_wrong_protection_is_missed() {
+    let drawn = Drawn::<u32>::new(35);
+    drawn.assert_protection_is_found();
+    let protected_first = Program {
+        decides: |blank, listed, by_chi| !listed && (blank || by_chi),
+        ..Program::right()
+    };
+    drawn.assert_found("protection before blanks", protected_first);
+    Drawn::<Float>::new(36).assert_protection_is_found();
 }
 
 fn is_blank(input: &Input<u32>, parent_depth: u8, counts: [u32; 4]) -> bool {

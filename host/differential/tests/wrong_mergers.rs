@@ -1,11 +1,16 @@
 //! Wrong mergers: the random inputs must tell each from the scope's often enough for a short run to
-//! find it, by whether the four are merged alone.
+//! find it, by whether the four are merged alone, or by what is refused.
+
+mod readings;
 
 use differential::{
     floats::Float,
-    quads::{unit_density, Call},
+    lists::Value,
+    quads::{unit_density, Call, Quad},
     random::Random,
 };
+use mom::Refusal;
+use readings::{early, is_listed, late, wrong_checks, wrong_searches};
 
 const DRAWN: usize = 200_000;
 
@@ -23,14 +28,28 @@ fn merges_blank(call: &Call<u32>) -> bool {
     above(call) >= 0 && call.quad.values == [0; 4]
 }
 
+/// Whether four are kept whatever their chi is, but for blanks.
+fn is_protected<V: Value>(call: &Call<V>) -> bool {
+    is_listed(&call.protected, call.parent())
+}
+
 fn drawn_counts() -> impl Iterator<Item = Call<u32>> {
     let mut random = Random::new(6);
-    (0..DRAWN).map(move |_| Call::<u32>::random(&mut random))
+    (0..DRAWN).map(move |_| Call::<u32>::sound(&mut random))
 }
 
 fn drawn_densities() -> impl Iterator<Item = Call<Float>> {
     let mut random = Random::new(7);
-    (0..DRAWN).map(move |_| Call::<Float>::random(&mut random))
+    (0..DRAWN).map(move |_| Call::<Float>::sound(&mut random))
+}
+
+/// Those that are judged by their chi.
+fn counts_by_chi() -> impl Iterator<Item = Call<u32>> {
+    drawn_counts().filter(|call| !merges_blank(call) && !is_protected(call))
+}
+
+fn densities_by_chi() -> impl Iterator<Item = Call<Float>> {
+    drawn_densities().filter(|call| !is_protected(call))
 }
 
 fn assert_found(wrong: &str, differing: usize) {
@@ -42,10 +61,9 @@ fn assert_rule_is_found(wrong: &str, rule: fn(i16, f64, f64) -> bool) {
     fn differs<V>(rule: fn(i16, f64, f64) -> bool, chi: f64, call: &Call<V>) -> bool {
         rule(above(call), chi, call.chi2_threshold.0) != merges(chi, call)
     }
-    let by_chi = drawn_counts().filter(|call| !merges_blank(call));
-    let counts = by_chi.filter(|call| differs(rule, call.quad.chi(), call));
+    let counts = counts_by_chi().filter(|call| differs(rule, call.quad.chi(), call));
     assert_found(wrong, counts.count());
-    let densities = drawn_densities().filter(|call| differs(rule, call.quad.chi(), call));
+    let densities = densities_by_chi().filter(|call| differs(rule, call.quad.chi(), call));
     assert_found(wrong, densities.count());
 }
 
@@ -64,7 +82,7 @@ fn no_wrong_rule_is_missed() {
 fn assert_rule_of_blanks_is_found(wrong: &str, rule: fn(i16, f64, [u32; 4]) -> bool) {
     let differing = drawn_counts().filter(|call| {
         let wrong = rule(above(call), call.chi2_threshold.0, call.quad.values);
-        let by_chi = merges(call.quad.chi(), call);
+        let by_chi = !is_protected(call) && merges(call.quad.chi(), call);
         (wrong || by_chi) != (merges_blank(call) || by_chi)
     });
     assert_found(wrong, differing.count());
@@ -98,7 +116,7 @@ fn no_wrong_rule_of_blank_quads_is_missed() {
 /// Four densities of 0 are judged by their chi.
 #[test]
 fn no_rule_of_blank_quads_for_densities_is_missed() {
-    let differing = drawn_densities().filter(|call| {
+    let differing = densities_by_chi().filter(|call| {
         let blank = above(call) >= 0 && call.quad.densities() == [0.0; 4];
         blank && !merges(call.quad.chi(), call)
     });
@@ -127,8 +145,7 @@ fn inverse(n: [f64; 4]) -> [f64; 4] {
 }
 
 fn assert_count_chi_is_found(wrong: &str, chi: fn([f64; 4]) -> f64) {
-    let by_chi = drawn_counts().filter(|call| !merges_blank(call));
-    let differing = by_chi.filter(|call| {
+    let differing = counts_by_chi().filter(|call| {
         let wrong = chi(call.quad.values.map(f64::from));
         merges(wrong, call) != merges(call.quad.chi(), call)
     });
@@ -154,7 +171,7 @@ fn bounded(c: f64, m: [f64; 4]) -> [f64; 4] {
 }
 
 fn assert_density_chi_is_found(wrong: &str, chi: fn(f64, [f64; 4]) -> f64) {
-    let differing = drawn_densities().filter(|call| {
+    let differing = densities_by_chi().filter(|call| {
         let c = unit_density(call.quad.parent_depth);
         let wrong = chi(c, call.quad.densities());
         merges(wrong, call) != merges(call.quad.chi(), call)
@@ -186,4 +203,90 @@ fn no_wrong_chi_of_densities_is_missed() {
     assert_density_chi_is_found("c one f64 above", |c, m| {
         excess(sum(m), sum(bounded(c.next_up(), m))) / c.next_up()
     });
+}
+
+/// Whether four are merged, where a parent is listed or not.
+fn merges_if<V: Value>(listed: bool, call: &Call<V>) -> bool {
+    let Quad {
+        values,
+        parent_depth,
+    } = call.quad;
+    let blank = above(call) >= 0 && V::are_blank(values);
+    blank || !listed && merges(V::chi2(values, parent_depth), call)
+}
+
+#[test]
+fn no_wrong_search_of_a_list_is_missed() {
+    fn among<V: Value>(drawn: impl Iterator<Item = Call<V>>) {
+        let drawn: Vec<Call<V>> = drawn.collect();
+        for (wrong, search) in wrong_searches() {
+            let differing = drawn.iter().filter(|call| {
+                let listed = search(&call.protected, call.parent());
+                merges_if(listed, call) != merges_if(is_protected(call), call)
+            });
+            assert_found(wrong, differing.count());
+        }
+    }
+    among(drawn_counts());
+    among(drawn_densities());
+}
+
+#[test]
+fn no_protection_of_blank_quads_is_missed() {
+    let differing = drawn_counts().filter(|call| merges_blank(call) && is_protected(call));
+    assert_found("protection before blanks", differing.count());
+    let below_m = drawn_counts().filter(|call| {
+        let blank = call.quad.values == [0; 4];
+        blank && above(call) < 0 && is_protected(call)
+    });
+    assert_found("blanks below M", below_m.count());
+}
+
+/// A merger that refuses otherwise.
+fn assert_refusal_is_found<V: Value>(
+    wrong: &str,
+    drawn: &[Call<V>],
+    refusal: impl Fn(&Call<V>) -> Option<Refusal>,
+) {
+    let differing = drawn.iter().filter(|call| refusal(call) != call.refusal());
+    assert_found(wrong, differing.count());
+}
+
+#[test]
+fn no_wrong_refusal_is_missed() {
+    fn among<V: Value>(drawn: impl Iterator<Item = Call<V>>) {
+        let drawn: Vec<Call<V>> = drawn.collect();
+        for (wrong, check) in wrong_checks() {
+            assert_refusal_is_found(wrong, &drawn, |call| call.refusal_by(check));
+        }
+        for number in [7, 9, 10] {
+            let without = |call: &Call<V>| call.refusal_by(|_| None);
+            let wrong = format!("15 after {number}");
+            // Counts are refused by 10 alone, densities by 9.
+            if drawn
+                .iter()
+                .any(|call| call.refusal().is_some_and(|r| r.number() == number))
+            {
+                assert_refusal_is_found(&wrong, &drawn, |call| {
+                    late(number, call.refusal(), without(call))
+                });
+            }
+        }
+        for number in [1, 2, 3] {
+            let wrong = format!("15 before {number}");
+            assert_refusal_is_found(&wrong, &drawn, |call| {
+                early(number, call.refusal(), &call.protected)
+            });
+        }
+        assert_refusal_is_found("any hash taken", &drawn, |call| {
+            let sound = Call {
+                parent_hash: 0,
+                ..call.clone()
+            };
+            sound.refusal()
+        });
+    }
+    let mut random = Random::new(8);
+    among((0..DRAWN).map(|_| Call::<u32>::random(&mut random)));
+    among((0..DRAWN).map(|_| Call::<Float>::random(&mut random)));
 }

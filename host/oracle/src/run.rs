@@ -2,8 +2,9 @@
 //! closures that the scope and its change requests define. `Z` is u64 or u32, the two zuniq types of
 //! the original.
 //!
-//! Counts are merged by the original's merger behind one test of ours, that of blank quads
-//! (`count_merger`). The calls named `by_chi` have its merger alone, as the original is.
+//! Values are merged by the original's mergers behind tests of ours, that of blank quads, for counts, and
+//! that of protected parents (`count_merger`, `density_merger`). The calls named `by_chi` have its mergers
+//! alone, as the original is.
 //!
 //! A call panics where the original does: under `checked` where its arithmetic overflows.
 
@@ -62,30 +63,82 @@ pub fn are_overlapping<Z: ZUniqHashT>(zuniq_l: Z, zuniq_r: Z) -> bool {
     Z::are_overlapping(zuniq_l, zuniq_r)
 }
 
-// ---- Section 2: mergers. `parent` is the parent's depth, `m` and `t` are the scope's M and T.
+// ---- Section 2: mergers. `parent` is the parent, or its depth, `m` and `t` are the scope's M and T.
+// `protects` says of a parent's depth and hash whether note 7 lists it.
 
-/// "Four siblings of count 0 now merge at any T, where the parent depth is at least M." (Note 4.) All
-/// others are handed to the original's merger. No call is made with a T that is NaN.
-fn count_merger<Z: ZUniqHashT>(m: u8, t: f64) -> impl Fn(u8, Z, [u32; 4]) -> Result<u32, [u32; 4]> {
+/// An empty list, for `protects`.
+pub fn unprotected<Z>(_: u8, _: Z) -> bool {
+    false
+}
+
+/// A list, for `protects`: the parent's zuniq is held to one after the other.
+pub fn listed<Z: ZUniqHashT>(protected: &[Z]) -> impl Fn(u8, Z) -> bool + '_ {
+    move |depth, hash| protected.contains(&Z::to_zuniq(depth, hash))
+}
+
+/// The same, as a long list that rises asks for.
+pub fn searched<Z: ZUniqHashT>(protected: &[Z]) -> impl Fn(u8, Z) -> bool + '_ {
+    move |depth, hash| protected.binary_search(&Z::to_zuniq(depth, hash)).is_ok()
+}
+
+/// "Four siblings of count 0 now merge at any T, where the parent depth is at least M." (Note 4.) "A
+/// quad whose parent is listed is kept, though blank quads of Note 4 merge first." (Note 7.) All others
+/// are handed to the original's merger. No call is made with a T that is NaN.
+fn count_merger<Z: ZUniqHashT>(
+    m: u8,
+    t: f64,
+    protects: impl Fn(u8, Z) -> bool,
+) -> impl Fn(u8, Z, [u32; 4]) -> Result<u32, [u32; 4]> {
     let by_chi = new_chi2_count_merger_with_depth_threshold(t, m);
     move |parent, hash, counts| match counts {
         [0, 0, 0, 0] if parent >= m => Ok(0),
+        _ if protects(parent, hash) => Err(counts),
         _ => by_chi(parent, hash, counts),
     }
 }
 
-/// The merged count, or none where the four are kept.
-pub fn merge_counts(parent: u8, m: u8, t: f64, counts: [u32; 4]) -> Option<u32> {
-    count_merger::<u64>(m, t)(parent, 0, counts).ok()
+/// The same without note 4, which is about counts.
+fn density_merger<Z: ZUniqHashT>(
+    m: u8,
+    t: f64,
+    protects: impl Fn(u8, Z) -> bool,
+) -> impl Fn(u8, Z, [f64; 4]) -> Result<f64, [f64; 4]> {
+    let by_chi = new_chi2_density_merger(t, Some(m));
+    move |parent, hash, densities| match protects(parent, hash) {
+        true => Err(densities),
+        false => by_chi(parent, hash, densities),
+    }
 }
 
-/// The same by the original's merger alone, which keeps a blank quad where T is not above 0.
+/// The merged count, or none where the four are kept.
+pub fn merge_counts(
+    (parent, hash): (u8, u64),
+    m: u8,
+    t: f64,
+    protects: impl Fn(u8, u64) -> bool,
+    counts: [u32; 4],
+) -> Option<u32> {
+    count_merger(m, t, protects)(parent, hash, counts).ok()
+}
+
+/// The same by the original's merger alone, which keeps a blank quad where T is not above 0, and knows
+/// of no list.
 pub fn merge_counts_by_chi(parent: u8, m: u8, t: f64, counts: [u32; 4]) -> Option<u32> {
     new_chi2_count_merger_with_depth_threshold::<u64, u32>(t, m)(parent, 0, counts).ok()
 }
 
 /// The merged density, or none where the four are kept.
-pub fn merge_densities(parent: u8, m: u8, t: f64, densities: [f64; 4]) -> Option<f64> {
+pub fn merge_densities(
+    (parent, hash): (u8, u64),
+    m: u8,
+    t: f64,
+    protects: impl Fn(u8, u64) -> bool,
+    densities: [f64; 4],
+) -> Option<f64> {
+    density_merger(m, t, protects)(parent, hash, densities).ok()
+}
+
+pub fn merge_densities_by_chi(parent: u8, m: u8, t: f64, densities: [f64; 4]) -> Option<f64> {
     new_chi2_density_merger::<u64, f64>(t, Some(m))(parent, 0, densities).ok()
 }
 
@@ -97,7 +150,7 @@ pub fn chi_of_counts(parent: u8, counts: [u32; 4]) -> Option<f64> {
 }
 
 pub fn chi_of_densities(parent: u8, densities: [f64; 4]) -> Option<f64> {
-    chi_by_bisection(|t| merge_densities(parent, 0, t, densities).is_some())
+    chi_by_bisection(|t| merge_densities_by_chi(parent, 0, t, densities).is_some())
 }
 
 /// The same, in two calls of the original where the guess is right.
@@ -109,7 +162,7 @@ pub fn chi_of_counts_near(guess: f64, parent: u8, counts: [u32; 4]) -> Option<f6
 
 pub fn chi_of_densities_near(guess: f64, parent: u8, densities: [f64; 4]) -> Option<f64> {
     chi_near(guess, |t| {
-        merge_densities(parent, 0, t, densities).is_some()
+        merge_densities_by_chi(parent, 0, t, densities).is_some()
     })
 }
 
@@ -196,9 +249,10 @@ pub fn build_counts<Z: ZUniqHashT>(
     depth: u8,
     m: u8,
     t: f64,
+    protects: impl Fn(u8, Z) -> bool,
     cells: impl Iterator<Item = (Z, u32)>,
 ) -> Vec<(Z, u32)> {
-    MomVecImpl::from_hpx_sorted_entries(depth, cells, count_merger(m, t))
+    MomVecImpl::from_hpx_sorted_entries(depth, cells, count_merger(m, t, protects))
         .owned_entries()
         .collect()
 }
@@ -216,6 +270,18 @@ pub fn build_counts_by_chi<Z: ZUniqHashT>(
 }
 
 pub fn build_densities<Z: ZUniqHashT>(
+    depth: u8,
+    m: u8,
+    t: f64,
+    protects: impl Fn(u8, Z) -> bool,
+    cells: impl Iterator<Item = (Z, f64)>,
+) -> Vec<(Z, f64)> {
+    MomVecImpl::from_hpx_sorted_entries(depth, cells, density_merger(m, t, protects))
+        .owned_entries()
+        .collect()
+}
+
+pub fn build_densities_by_chi<Z: ZUniqHashT>(
     depth: u8,
     m: u8,
     t: f64,
@@ -247,8 +313,9 @@ pub fn pool<Z: ZUniqHashT>(
     right: MomVecImpl<Z, u32>,
     m: u8,
     t: f64,
+    protects: impl Fn(u8, Z) -> bool,
 ) -> (u8, Vec<(Z, u32)>) {
-    pool_with(left, right, count_merger(m, t))
+    pool_with(left, right, count_merger(m, t, protects))
 }
 
 pub fn pool_by_chi<Z: ZUniqHashT>(
@@ -271,7 +338,31 @@ fn pool_with<Z: ZUniqHashT>(
     (pooled.depth_max(), pooled.owned_entries().collect())
 }
 
+/// "Alone: dropped; both: (k × left) × right."
+fn product_rule(k: f64) -> impl Fn(LhsRhsBoth<f64>) -> Option<f64> {
+    move |densities| match densities {
+        LhsRhsBoth::Left(_) | LhsRhsBoth::Right(_) => None,
+        LhsRhsBoth::Both(left, right) => Some(k * left * right),
+    }
+}
+
+/// The original's own product takes no merger: this is its `merge` with the scope's closures, as the
+/// original calls it.
 pub fn product<Z: ZUniqHashT>(
+    left: MomVecImpl<Z, f64>,
+    right: MomVecImpl<Z, f64>,
+    k: f64,
+    m: u8,
+    t: f64,
+    protects: impl Fn(u8, Z) -> bool,
+) -> (u8, Vec<(Z, f64)>) {
+    let split = |_, _, density| [density; 4];
+    let merger = density_merger(m, t, protects);
+    let product = MomVecImpl::merge(left, right, split, product_rule(k), merger);
+    (product.depth_max(), product.owned_entries().collect())
+}
+
+pub fn product_by_chi<Z: ZUniqHashT>(
     left: MomVecImpl<Z, f64>,
     right: MomVecImpl<Z, f64>,
     k: f64,

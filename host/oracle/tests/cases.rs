@@ -1,7 +1,7 @@
 //! The scope's cases on the originals: they show that each call in `run` hands its arguments on in
 //! the right order.
 
-use oracle::run;
+use oracle::run::{self, listed, unprotected};
 
 fn zuniqs<V: Copy>(entries: &[(u8, u64, V)]) -> Vec<(u64, V)> {
     entries
@@ -10,14 +10,19 @@ fn zuniqs<V: Copy>(entries: &[(u8, u64, V)]) -> Vec<(u64, V)> {
         .collect()
 }
 
+/// Under the first cell of a depth, with an empty list.
+fn merge_counts(parent: u8, m: u8, t: f64, counts: [u32; 4]) -> Option<u32> {
+    run::merge_counts((parent, 0), m, t, unprotected, counts)
+}
+
 #[test]
 fn counts_merge_below_the_threshold_alone() {
-    assert_eq!(run::merge_counts(0, 0, 3.0, [1, 2, 4, 4]), None);
-    assert_eq!(run::merge_counts(0, 0, 3.5, [1, 2, 4, 4]), Some(11));
-    assert_eq!(run::merge_counts(0, 0, 5.0, [0, 0, 0, 5]), None);
-    assert_eq!(run::merge_counts(0, 0, 6.0, [0, 0, 0, 5]), Some(5));
-    assert_eq!(run::merge_counts(0, 0, 0.0, [4, 4, 4, 4]), None);
-    assert_eq!(run::merge_counts(0, 1, 6.0, [0, 0, 0, 5]), None);
+    assert_eq!(merge_counts(0, 0, 3.0, [1, 2, 4, 4]), None);
+    assert_eq!(merge_counts(0, 0, 3.5, [1, 2, 4, 4]), Some(11));
+    assert_eq!(merge_counts(0, 0, 5.0, [0, 0, 0, 5]), None);
+    assert_eq!(merge_counts(0, 0, 6.0, [0, 0, 0, 5]), Some(5));
+    assert_eq!(merge_counts(0, 0, 0.0, [4, 4, 4, 4]), None);
+    assert_eq!(merge_counts(0, 1, 6.0, [0, 0, 0, 5]), None);
 }
 
 const BELOW: [f64; 5] = [0.0, -0.0, -5e-324, -1.0, f64::NEG_INFINITY];
@@ -26,18 +31,18 @@ const BELOW: [f64; 5] = [0.0, -0.0, -5e-324, -1.0, f64::NEG_INFINITY];
 #[test]
 fn blank_quads_merge_at_any_threshold_from_m_on() {
     for t in BELOW {
-        assert_eq!(run::merge_counts(0, 0, t, [0; 4]), Some(0));
-        assert_eq!(run::merge_counts(28, 28, t, [0; 4]), Some(0));
-        assert_eq!(run::merge_counts(0, 1, t, [0; 4]), None);
+        assert_eq!(merge_counts(0, 0, t, [0; 4]), Some(0));
+        assert_eq!(merge_counts(28, 28, t, [0; 4]), Some(0));
+        assert_eq!(merge_counts(0, 1, t, [0; 4]), None);
         assert_eq!(run::merge_counts_by_chi(0, 0, t, [0; 4]), None);
         for counts in [[0, 0, 0, 1], [1, 0, 0, 0], [4; 4]] {
-            assert_eq!(run::merge_counts(0, 0, t, counts), None);
+            assert_eq!(merge_counts(0, 0, t, counts), None);
         }
     }
     for t in [5e-324, f64::INFINITY] {
-        assert_eq!(run::merge_counts(0, 0, t, [0; 4]), Some(0));
+        assert_eq!(merge_counts(0, 0, t, [0; 4]), Some(0));
         assert_eq!(run::merge_counts_by_chi(0, 0, t, [0; 4]), Some(0));
-        assert_eq!(run::merge_counts(0, 1, t, [0; 4]), None);
+        assert_eq!(merge_counts(0, 1, t, [0; 4]), None);
     }
 }
 
@@ -78,13 +83,19 @@ fn no_guess_changes_the_chi() {
 #[test]
 fn full_quads_are_built_into_parents_no_shallower_than_m() {
     let ones = || (0..16).map(|hash| (hash, 1));
-    assert_eq!(run::build_counts(2, 0, 3.5, ones()), zuniqs(&[(0, 0, 16)]));
-    let fours = zuniqs(&[(1, 0, 4), (1, 1, 4), (1, 2, 4), (1, 3, 4)]);
-    assert_eq!(run::build_counts(2, 1, 3.5, ones()), fours);
-    let straddling = (1u64..5).map(|hash| (hash, 1));
-    assert_eq!(run::build_counts(1, 0, 3.5, straddling).len(), 4);
     assert_eq!(
-        run::build_densities(1, 0, 3.5, (0..4).map(|hash| (hash, 2.0))),
+        run::build_counts(2, 0, 3.5, unprotected, ones()),
+        zuniqs(&[(0, 0, 16)])
+    );
+    let fours = zuniqs(&[(1, 0, 4), (1, 1, 4), (1, 2, 4), (1, 3, 4)]);
+    assert_eq!(run::build_counts(2, 1, 3.5, unprotected, ones()), fours);
+    let straddling = (1u64..5).map(|hash| (hash, 1));
+    assert_eq!(
+        run::build_counts(1, 0, 3.5, unprotected, straddling).len(),
+        4
+    );
+    assert_eq!(
+        run::build_densities(1, 0, 3.5, unprotected, (0..4).map(|hash| (hash, 2.0))),
         zuniqs(&[(0, 0, 2.0)])
     );
 }
@@ -94,10 +105,16 @@ fn blank_cells_are_built_into_parents_no_shallower_than_m() {
     let blanks = || (0..16).map(|hash| (hash, 0));
     let sixteen: Vec<_> = blanks().map(|(hash, n)| (2, hash, n)).collect();
     for t in BELOW {
-        assert_eq!(run::build_counts(2, 0, t, blanks()), zuniqs(&[(0, 0, 0)]));
+        assert_eq!(
+            run::build_counts(2, 0, t, unprotected, blanks()),
+            zuniqs(&[(0, 0, 0)])
+        );
         let four = zuniqs(&[(1, 0, 0), (1, 1, 0), (1, 2, 0), (1, 3, 0)]);
-        assert_eq!(run::build_counts(2, 1, t, blanks()), four);
-        assert_eq!(run::build_counts(2, 2, t, blanks()), zuniqs(&sixteen));
+        assert_eq!(run::build_counts(2, 1, t, unprotected, blanks()), four);
+        assert_eq!(
+            run::build_counts(2, 2, t, unprotected, blanks()),
+            zuniqs(&sixteen)
+        );
         let by_chi = run::build_counts_by_chi(2, 0, t, blanks());
         assert_eq!(by_chi, zuniqs(&sixteen));
     }
@@ -108,7 +125,7 @@ fn the_pool_splits_the_larger_cell() {
     let pool = |t| {
         let left = run::mom(0, zuniqs(&[(0, 0, 10)]));
         let right = run::mom(1, zuniqs(&[(1, 1, 3)]));
-        run::pool(left, right, 0, t)
+        run::pool(left, right, 0, t, unprotected)
     };
     let apart = zuniqs(&[(1, 0, 3), (1, 1, 6), (1, 2, 2), (1, 3, 2)]);
     assert_eq!(pool(2.0), (1, apart));
@@ -125,9 +142,15 @@ fn the_pool_of_blank_maps_is_merged_no_shallower_than_m() {
     let apart = zuniqs(&[(1, 0, 0), (1, 1, 0), (1, 2, 0), (1, 3, 0)]);
     for t in BELOW {
         let (left, right) = maps();
-        assert_eq!(run::pool(left, right, 0, t), (1, zuniqs(&[(0, 0, 0)])));
+        assert_eq!(
+            run::pool(left, right, 0, t, unprotected),
+            (1, zuniqs(&[(0, 0, 0)]))
+        );
         let (left, right) = maps();
-        assert_eq!(run::pool(left, right, 1, t), (1, apart.clone()));
+        assert_eq!(
+            run::pool(left, right, 1, t, unprotected),
+            (1, apart.clone())
+        );
         let (left, right) = maps();
         assert_eq!(run::pool_by_chi(left, right, 0, t), (1, apart.clone()));
     }
@@ -135,10 +158,16 @@ fn the_pool_of_blank_maps_is_merged_no_shallower_than_m() {
 
 #[test]
 fn the_product_drops_what_is_alone() {
-    let left = run::mom(0, zuniqs(&[(0, 0, 2.0)]));
-    let right = run::mom(1, zuniqs(&[(1, 2, 3.0)]));
+    let maps = || {
+        let left = run::mom(0, zuniqs(&[(0, 0, 2.0)]));
+        let right = run::mom(1, zuniqs(&[(1, 2, 3.0)]));
+        (left, right)
+    };
     let both = (1, zuniqs(&[(1, 2, 6.0)]));
-    assert_eq!(run::product(left, right, 1.0, 0, 0.0), both);
+    let (left, right) = maps();
+    assert_eq!(run::product_by_chi(left, right, 1.0, 0, 0.0), both);
+    let (left, right) = maps();
+    assert_eq!(run::product(left, right, 1.0, 0, 0.0, unprotected), both);
 }
 
 #[test]
@@ -188,10 +217,16 @@ fn narrow_maps_are_checked_looked_up_and_built() {
     assert_eq!(run::get_cell_containing(&mom, last.0), Ok(Some(last)));
     assert_eq!(run::get_overlapped_cells(&mom, last.0), [last]);
     let ones = (0..16u32).map(|hash| (hash, 1));
-    assert_eq!(run::build_counts(2, 0, 3.5, ones), [(1 << 26, 16)]);
+    assert_eq!(
+        run::build_counts(2, 0, 3.5, unprotected, ones),
+        [(1 << 26, 16)]
+    );
     let blanks = || (0..16u32).map(|hash| (hash, 0));
-    assert_eq!(run::build_counts(2, 0, 0.0, blanks()), [(1 << 26, 0)]);
-    assert_eq!(run::build_counts(2, 1, 0.0, blanks()).len(), 4);
+    assert_eq!(
+        run::build_counts(2, 0, 0.0, unprotected, blanks()),
+        [(1 << 26, 0)]
+    );
+    assert_eq!(run::build_counts(2, 1, 0.0, unprotected, blanks()).len(), 4);
     assert_eq!(run::build_counts_by_chi(2, 0, 0.0, blanks()).len(), 16);
 }
 
@@ -215,4 +250,101 @@ fn maps_are_moved_between_the_widths() {
         assert_eq!(run::zuniq_from_u64_to_u32(wide), narrow);
         assert_eq!(run::zuniq_from_u32_to_u64(narrow), wide);
     }
+}
+
+// ---- Protected parents
+
+/// The zuniqs of cells, a list of protected parents.
+fn list(cells: &[(u8, u64)]) -> Vec<u64> {
+    let zuniqs = cells.iter().map(|&(d, h)| run::to_zuniq(d, h));
+    zuniqs.collect()
+}
+
+/// Both ways of looking a parent up.
+#[test]
+fn a_parent_is_listed_by_its_depth_and_hash() {
+    let list = list(&[(1, 0), (0, 0), (2, 17), (0, 3)]);
+    for (depth, hash, is_listed) in [
+        (1, 0, true),
+        (0, 0, true),
+        (2, 17, true),
+        (0, 3, true),
+        (0, 1, false),
+        (1, 4, false),
+        (2, 0, false),
+        (3, 0, false),
+        (1, 3, false),
+    ] {
+        assert_eq!(listed(&list)(depth, hash), is_listed);
+        assert_eq!(run::searched(&list)(depth, hash), is_listed);
+        assert!(!listed(&[])(depth, hash));
+        assert!(!run::searched(&[])(depth, hash));
+        assert!(!unprotected(depth, hash));
+    }
+}
+
+#[test]
+fn a_quad_is_kept_under_a_listed_parent_unless_it_is_blank() {
+    let list = list(&[(0, 5), (28, 9)]);
+    let t = f64::INFINITY;
+    for parent in [(0, 5), (28, 9)] {
+        let counts = |m, counts| run::merge_counts(parent, m, t, listed(&list), counts);
+        assert_eq!(counts(0, [1; 4]), None);
+        assert_eq!(counts(0, [0, 0, 0, 1]), None);
+        assert_eq!(counts(0, [0; 4]), Some(0));
+        assert_eq!(counts(29, [0; 4]), None);
+        let densities = |m| run::merge_densities(parent, 0, t, listed(&list), [m; 4]);
+        assert_eq!((densities(8.0), densities(0.0)), (None, None));
+    }
+    for parent in [(0, 4), (1, 5), (28, 8)] {
+        let counts = run::merge_counts(parent, 0, t, listed(&list), [1; 4]);
+        assert_eq!(counts, Some(4));
+        let densities = run::merge_densities(parent, 0, t, listed(&list), [8.0; 4]);
+        assert_eq!(densities, Some(8.0));
+    }
+}
+
+/// Under a listed (1, 1) the cells stay, and with them the rest of (0, 0).
+#[test]
+fn cells_are_built_into_no_listed_parent() {
+    let list = list(&[(1, 1)]);
+    let kept = [(1, 0), (2, 4), (2, 5), (2, 6), (2, 7), (1, 2), (1, 3)];
+    let t = f64::INFINITY;
+    let ones = (0..16).map(|hash| (hash, 1));
+    let counts = kept.map(|(depth, hash)| (depth, hash, 4u32.pow(2 - depth as u32)));
+    let built = run::build_counts(2, 0, t, listed(&list), ones);
+    assert_eq!(built, zuniqs(&counts));
+    let blanks = (0..16).map(|hash| (hash, 0));
+    let built = run::build_counts(2, 0, t, listed(&list), blanks);
+    assert_eq!(built, zuniqs(&[(0, 0, 0)]));
+    let eights = (0..16).map(|hash| (hash, 8.0));
+    let densities = kept.map(|(depth, hash)| (depth, hash, 8.0));
+    let built = run::build_densities(2, 0, t, listed(&list), eights);
+    assert_eq!(built, zuniqs(&densities));
+    let narrow = [run::trait_to_zuniq(0, 0u32)];
+    let ones = (0..4u32).map(|hash| (hash, 1));
+    assert_eq!(run::build_counts(1, 0, t, listed(&narrow), ones).len(), 4);
+}
+
+#[test]
+fn maps_are_combined_into_no_listed_parent() {
+    let (base, child) = (list(&[(0, 0)]), list(&[(1, 0)]));
+    let t = f64::INFINITY;
+    let pool = |list: &[u64]| {
+        let left = run::mom(0, zuniqs(&[(0, 0, 10)]));
+        let right = run::mom(1, zuniqs(&[(1, 1, 3)]));
+        run::pool(left, right, 0, t, listed(list)).1
+    };
+    let apart = [(1, 0, 3), (1, 1, 6), (1, 2, 2), (1, 3, 2)];
+    assert_eq!(pool(&base), zuniqs(&apart));
+    assert_eq!(pool(&child), zuniqs(&[(0, 0, 13)]));
+    let four = [0, 1, 2, 3].map(|hash| (1, hash, 4.0));
+    let product = |list: &[u64]| {
+        let left = run::mom(0, zuniqs(&[(0, 0, 2.0)]));
+        let right = run::mom(1, zuniqs(&four));
+        run::product(left, right, 1.0, 0, t, listed(list)).1
+    };
+    let eights = four.map(|(depth, hash, _)| (depth, hash, 8.0));
+    assert_eq!(product(&base), zuniqs(&eights));
+    assert_eq!(product(&child), zuniqs(&[(0, 0, 8.0)]));
 }

@@ -4,6 +4,9 @@
 //! the places after the entries is part of its time, as are all its checks. The original makes its
 //! vector anew each time. In the row called `fresh` ours is lent buffers that are made within the
 //! time, too.
+//!
+//! Under a list of protected parents the original's merger stands behind a `binary_search` in it; with an
+//! empty list there is nothing to search, and the work is that of the rows without one.
 
 use std::time::Duration;
 
@@ -13,7 +16,7 @@ use oracle::run;
 
 use super::Plan;
 use crate::{
-    inputs::{blank_sky, densities, first_cells, random_quarter, Cells},
+    inputs::{blank_sky, densities, first_cells, parents_of, random_quarter, Cells},
     measure::{
         alone, contest, heading, heading_with_extra, row, row_alone, row_with_extra, timed, Extra,
         Rounds,
@@ -31,21 +34,29 @@ pub fn run(plan: Plan) {
     heading_with_extra("Adding", "cell", "cells");
     for (name, chi2_threshold) in THRESHOLDS {
         let work = format!("add counts, all of depth {depth}, T {name}");
-        counts(plan, &work, &all, chi2_threshold);
+        counts(plan, &work, &all, chi2_threshold, &[]);
     }
     let work = format!("add counts, narrow, all of depth {depth}, T 7.815");
-    counts(plan, &work, &narrow, CHI2);
+    counts(plan, &work, &narrow, CHI2, &[]);
     let quarter = random_quarter(depth + 1);
     let work = format!(
         "add counts, a random quarter of depth {}, T 7.815",
         depth + 1
     );
-    counts(plan, &work, &quarter, CHI2);
+    counts(plan, &work, &quarter, CHI2, &[]);
     let work = format!("add counts, blank sky (nine cells of ten 0), all of depth {depth}, T 0");
-    counts(plan, &work, &blank_sky(depth), 0.0);
+    counts(plan, &work, &blank_sky(depth), 0.0, &[]);
     for (name, chi2_threshold) in THRESHOLDS {
         let work = format!("add densities, all of depth {depth}, T {name}");
         add_densities(plan, &work, &densities(&all), chi2_threshold);
+    }
+    heading_with_extra("Adding under protected parents", "cell", "cells");
+    let number = 1_000_000 >> (2 * plan.shallower);
+    let cells = first_cells::<u64>(depth + 1, number);
+    for protected in [0, 1, 1_000, 100_000] {
+        let list = parents_of(cells.cells(), plan.smaller(protected));
+        let work = format!("add counts, T 7.815, {} protected", list.len());
+        counts(plan, &work, &cells, CHI2, &list);
     }
     heading("Adding in batches, and into fresh buffers", "cell", "cells");
     fresh_counts(plan, "add counts, T 7.815, fresh", &all);
@@ -56,31 +67,32 @@ pub fn run(plan: Plan) {
     }
 }
 
-fn counts<Z: Width>(plan: Plan, work: &str, cells: &Cells<u32, Z>, chi2_threshold: f64) {
-    let original = || run::build_counts(cells.depth, 0, chi2_threshold, cells.pairs());
+fn counts<Z: Width>(
+    plan: Plan,
+    work: &str,
+    cells: &Cells<u32, Z>,
+    chi2_threshold: f64,
+    protected: &[Z],
+) {
+    let (depth, t) = (cells.depth, chi2_threshold);
+    let original = || match protected {
+        [] => run::build_counts(depth, 0, t, run::unprotected, cells.pairs()),
+        list => run::build_counts(depth, 0, t, run::searched(list), cells.pairs()),
+    };
     add(
         plan,
         work,
         cells,
         original,
         |zuniqs, counts, hashes, batch| {
-            (Z::OURS.add_counts)(
-                cells.depth,
-                0,
-                chi2_threshold,
-                0,
-                zuniqs,
-                counts,
-                hashes,
-                batch,
-            )
-            .map(|added| added.entries)
+            (Z::OURS.add_counts)(depth, 0, t, protected, 0, zuniqs, counts, hashes, batch)
+                .map(|added| added.entries)
         },
     );
 }
 
 fn add_densities(plan: Plan, work: &str, cells: &Cells<f64>, chi2_threshold: f64) {
-    let original = || run::build_densities(cells.depth, 0, chi2_threshold, cells.pairs());
+    let original = || run::build_densities_by_chi(cells.depth, 0, chi2_threshold, cells.pairs());
     add(
         plan,
         work,
@@ -91,6 +103,7 @@ fn add_densities(plan: Plan, work: &str, cells: &Cells<f64>, chi2_threshold: f64
                 cells.depth,
                 0,
                 chi2_threshold,
+                &[],
                 0,
                 zuniqs,
                 values,
@@ -136,10 +149,10 @@ fn fresh_counts(plan: Plan, work: &str, cells: &Cells<u32>) {
     let ours = || {
         let (mut zuniqs, mut counts) = (vec![0; cells.len()], vec![0; cells.len()]);
         let (z, c) = (&mut zuniqs, &mut counts);
-        mom::add_counts(cells.depth, 0, CHI2, 0, z, c, hashes, batch).unwrap();
+        mom::add_counts(cells.depth, 0, CHI2, &[], 0, z, c, hashes, batch).unwrap();
         (zuniqs, counts)
     };
-    let original = || run::build_counts(cells.depth, 0, CHI2, cells.pairs());
+    let original = || run::build_counts(cells.depth, 0, CHI2, run::unprotected, cells.pairs());
     let times = contest(plan.rounds, || timed(ours), || timed(original));
     row(work, cells.len(), times);
 }
@@ -172,7 +185,7 @@ fn in_batches(plan: Plan, cells: &Cells<u32>, batches: usize, lent: Lent) {
         let (all, checks) = add_batches(cells, batches, lent, &mut zuniqs, &mut counts);
         best = (best.0.min(all), best.1.min(checks));
     }
-    let original = || run::build_counts(cells.depth, 0, CHI2, cells.pairs());
+    let original = || run::build_counts(cells.depth, 0, CHI2, run::unprotected, cells.pairs());
     let entries = original();
     let map = zuniqs.iter().copied().zip(counts.iter().copied());
     assert!(
@@ -209,7 +222,7 @@ fn add_batches(
         };
         let mut call = |end: usize, hashes: &[u64], batch: &[u32]| {
             let (z, c) = (&mut zuniqs[..end], &mut counts[..end]);
-            mom::add_counts(cells.depth, 0, CHI2, held, z, c, hashes, batch)
+            mom::add_counts(cells.depth, 0, CHI2, &[], held, z, c, hashes, batch)
                 .unwrap()
                 .entries
         };

@@ -73,11 +73,11 @@ fn merging(plan: Plan, number: usize) {
         plan,
         "merge four densities, T 7.815",
         &quads,
-        |&(parent, quad)| match mom::chi2_density_merger(parent, 0, T, quad).unwrap() {
+        |&(parent, quad)| match mom::chi2_density_merger(parent, 0, 0, T, &[], quad).unwrap() {
             DensityMerge::Merged(density) => density.to_bits(),
             DensityMerge::Kept(_) => 0,
         },
-        |&(parent, quad)| run::merge_densities(parent, 0, T, quad).map_or(0, f64::to_bits),
+        |&(parent, quad)| run::merge_densities_by_chi(parent, 0, T, quad).map_or(0, f64::to_bits),
     );
 }
 

@@ -1,13 +1,14 @@
 //! Pooling and multiplying. The original takes its two maps for its own: they are copied for it
 //! outside the time. Ours walks the overlay of lent maps into lent buffers, which hold what the
-//! round before left there and have just as many places as there are cells before merging.
+//! round before left there and have just as many places as there are cells before merging. Under protected
+//! parents the original's merger stands behind a `binary_search`, as in adding.
 
 use mom::Refusal;
 use oracle::run;
 
 use super::Plan;
 use crate::{
-    inputs::{count_map, density_map, Map},
+    inputs::{count_map, density_map, parents_of, Map},
     measure::{alone, contest, heading_with_extra, row_with_extra, timed, Extra},
 };
 
@@ -21,35 +22,52 @@ pub fn run(plan: Plan) {
     let (left, right) = (count_map(depth, number, 1), count_map(depth, number, 2));
     let shallow = count_map(depth - 5, number, 3);
     heading_with_extra("Combining", "entry", "entries");
-    pool(plan, "pool, T 7.815", &left, &right, CHI2);
-    pool(plan, "pool, T -1", &left, &right, -1.0);
+    pool(plan, "pool, T 7.815", &left, &right, CHI2, &[]);
+    pool(plan, "pool, T -1", &left, &right, -1.0, &[]);
     pool(
         plan,
         "pool, shallow with deep, T 7.815",
         &shallow,
         &right,
         CHI2,
+        &[],
     );
-    let [left, right, shallow] = [left, right, shallow].map(|map| density_map(&map));
-    product(plan, "product, T 7.815", &left, &right, CHI2);
-    product(plan, "product, T -1", &left, &right, -1.0);
+    let maps = [&left, &right, &shallow].map(density_map);
+    let [left_densities, right_densities, shallow] = &maps;
+    product(
+        plan,
+        "product, T 7.815",
+        left_densities,
+        right_densities,
+        CHI2,
+    );
+    product(plan, "product, T -1", left_densities, right_densities, -1.0);
     product(
         plan,
         "product, shallow with deep, T 7.815",
-        &shallow,
-        &right,
+        shallow,
+        right_densities,
         CHI2,
     );
+    heading_with_extra("Pooling under protected parents", "entry", "entries");
+    for protected in [0, 1, 1_000, 100_000] {
+        let list = parents_of(left.cells().chain(right.cells()), plan.smaller(protected));
+        let work = format!("pool, T 7.815, {} protected", list.len());
+        pool(plan, &work, &left, &right, CHI2, &list);
+    }
 }
 
-fn pool(plan: Plan, work: &str, left: &Map<u32>, right: &Map<u32>, chi2_threshold: f64) {
+fn pool(plan: Plan, work: &str, left: &Map<u32>, right: &Map<u32>, t: f64, protected: &[u64]) {
     let ours = |left: &Map<u32>, right: &Map<u32>, zuniqs: &mut [u64], counts: &mut [u32]| {
-        mom::pool(left.lent(), right.lent(), 0, chi2_threshold, zuniqs, counts)
+        mom::pool(left.lent(), right.lent(), 0, t, protected, zuniqs, counts)
             .map(|pooled| pooled.entries)
     };
     let original = |left: Vec<(u64, u32)>, right: Vec<(u64, u32)>, depths: (u8, u8)| {
         let (left, right) = (run::mom(depths.0, left), run::mom(depths.1, right));
-        run::pool(left, right, 0, chi2_threshold).1
+        match protected {
+            [] => run::pool(left, right, 0, t, run::unprotected).1,
+            list => run::pool(left, right, 0, t, run::searched(list)).1,
+        }
     };
     combine(plan, work, left, right, ours, original);
 }
@@ -62,13 +80,14 @@ fn product(plan: Plan, work: &str, left: &Map<f64>, right: &Map<f64>, chi2_thres
             0,
             chi2_threshold,
             FACTOR,
+            &[],
             zuniqs,
             values,
         )
     };
     let original = |left: Vec<(u64, f64)>, right: Vec<(u64, f64)>, depths: (u8, u8)| {
         let (left, right) = (run::mom(depths.0, left), run::mom(depths.1, right));
-        run::product(left, right, FACTOR, 0, chi2_threshold).1
+        run::product_by_chi(left, right, FACTOR, 0, chi2_threshold).1
     };
     combine(plan, work, left, right, ours, original);
 }

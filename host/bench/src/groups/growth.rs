@@ -17,9 +17,9 @@ pub fn run(plan: Plan) {
         let mut ours = || {
             let (hashes, batch) = (&cells.hashes, &cells.values);
             let (z, c) = (&mut zuniqs, &mut counts);
-            mom::add_counts(cells.depth, 0, 7.815, 0, z, c, hashes, batch).unwrap()
+            mom::add_counts(cells.depth, 0, 7.815, &[], 0, z, c, hashes, batch).unwrap()
         };
-        let original = || run::build_counts(cells.depth, 0, 7.815, cells.pairs());
+        let original = || run::build_counts(cells.depth, 0, 7.815, run::unprotected, cells.pairs());
         // Small works are repeated more often.
         let rounds = Rounds(plan.rounds.0 * (10_000_000 / number).clamp(1, 20));
         let times = contest(rounds, || timed(&mut ours), || timed(original));

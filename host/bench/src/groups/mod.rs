@@ -21,6 +21,13 @@ pub struct Plan {
     pub shallower: u8,
 }
 
+impl Plan {
+    /// A number of things, as many less as there are fewer cells, but one at least where there is one.
+    pub fn smaller(&self, number: usize) -> usize {
+        (number >> (2 * self.shallower)).max(number.min(1))
+    }
+}
+
 pub struct Group {
     pub name: &'static str,
     pub run: fn(Plan),

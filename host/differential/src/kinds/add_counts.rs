@@ -89,6 +89,7 @@ impl<Z: Width> Build<Z> for u32 {
             call.depth,
             call.depth_threshold,
             call.chi2_threshold,
+            call.protected,
             call.held,
             call.zuniqs,
             call.values,
@@ -98,7 +99,7 @@ impl<Z: Width> Build<Z> for u32 {
         Ok((entries, total))
     }
 
-    fn build(depth: u8, m: u8, t: f64, cells: &[(Z, u32)]) -> Vec<(Z, u32)> {
-        run::build_counts(depth, m, t, cells.iter().copied())
+    fn build(depth: u8, m: u8, t: f64, protected: &[Z], cells: &[(Z, u32)]) -> Vec<(Z, u32)> {
+        run::build_counts(depth, m, t, run::listed(protected), cells.iter().copied())
     }
 }

@@ -92,6 +92,7 @@ impl Build<u64> for Float {
             call.depth,
             call.depth_threshold,
             call.chi2_threshold,
+            call.protected,
             call.held,
             call.zuniqs,
             &mut densities,
@@ -104,9 +105,15 @@ impl Build<u64> for Float {
         answer.map(|entries| (entries, ()))
     }
 
-    fn build(depth: u8, m: u8, t: f64, cells: &[(u64, Float)]) -> Vec<(u64, Float)> {
+    fn build(
+        depth: u8,
+        m: u8,
+        t: f64,
+        protected: &[u64],
+        cells: &[(u64, Float)],
+    ) -> Vec<(u64, Float)> {
         let cells = cells.iter().map(|&(hash, density)| (hash, density.0));
-        let entries = run::build_densities(depth, m, t, cells).into_iter();
+        let entries = run::build_densities(depth, m, t, run::listed(protected), cells).into_iter();
         entries.map(|(zuniq, m)| (zuniq, Float(m))).collect()
     }
 }

@@ -1,8 +1,9 @@
 //! The chi-squares of counts and of densities, by bits.
 //!
-//! Ours answers a chi with the four that it keeps: here by M, which is above the parent's depth, and
-//! by T, which no chi is below. No T keeps four counts of 0 (note 4): their chi is compared by M
-//! alone, at the largest T and at the least. The original keeps its chi to itself but merges exactly
+//! Ours answers a chi with the four that it keeps: here by M, which is above the parent's depth, by T,
+//! which no chi is below, and by a list that their parent is in. No T and no list keeps four counts of 0
+//! (notes 4 and 7): their chi is compared by M alone, at the largest T and at the least, and with a list.
+//! The original keeps its chi to itself but merges exactly
 //! where chi is below T. So our chi is tried on it: kept at T = chi and merged at the next f64 above,
 //! it can have no other. Where that isn't so, and for a part of the inputs anyway, the original's chi
 //! is found by bisection on T, with no look at ours.
@@ -14,7 +15,9 @@
 use mom::{CountMerge, DensityMerge, Refusal};
 use oracle::run;
 
-use crate::{compare::Kind, floats::Float, lists::Value, quads::Quad, random::Random};
+use crate::{
+    cells::Cell, compare::Kind, floats::Float, lists::Value, protected, quads::Quad, random::Random,
+};
 
 pub struct CountChi;
 pub struct DensityChi;
@@ -22,43 +25,91 @@ pub struct DensityChi;
 #[derive(Debug, PartialEq, Eq, PartialOrd, Ord)]
 pub struct Input<V> {
     quad: Quad<V>,
+    parent_hash: u64,
     /// Whether the original's chi is found with no look at ours.
     bisected: bool,
 }
 
-/// The chi of the four kept by M, and that of the four kept by T, where a T keeps them.
-type Answer = [Result<Option<Float>, Refusal>; 2];
+/// The chi of the four kept by M, that of the four kept by T, where a T keeps them, and that of the four
+/// kept by a list, where a list does.
+type Answer = [Result<Option<Float>, Refusal>; 3];
 
-/// M and T.
-const KEPT_BY_M: (u8, f64) = (29, f64::INFINITY);
-const KEPT_BY_T: (u8, f64) = (0, f64::NEG_INFINITY);
-const KEPT_BY_BOTH: (u8, f64) = (29, f64::NEG_INFINITY);
+/// What the four are kept by.
+#[derive(Clone, Copy)]
+struct By {
+    m: u8,
+    t: f64,
+    is_listed: bool,
+}
+
+const BY_M: By = By {
+    m: 29,
+    t: f64::INFINITY,
+    is_listed: false,
+};
+const BY_T: By = By {
+    m: 0,
+    t: f64::NEG_INFINITY,
+    is_listed: false,
+};
+const BY_LIST: By = By {
+    m: 0,
+    t: f64::INFINITY,
+    is_listed: true,
+};
 
 fn comparable(chi: f64) -> Option<Float> {
     (chi < f64::INFINITY).then_some(Float(chi))
 }
 
 fn small<V>(quad: Quad<V>) -> Input<V> {
-    let bisected = true;
-    Input { quad, bisected }
-}
-
-fn random<V>(quad: Quad<V>, random: &mut Random) -> Input<V> {
-    let bisected = random.below(16) == 0;
-    Input { quad, bisected }
-}
-
-fn count_chi(quad: Quad<u32>, (m, t): (u8, f64)) -> Result<f64, Refusal> {
-    match mom::chi2_count_merger(quad.parent_depth, m, t, quad.values)? {
-        CountMerge::Kept(chi) => Ok(chi),
-        CountMerge::Merged(_) => panic!("merged at M = {m} and T = {t}"),
+    Input {
+        quad,
+        parent_hash: 0,
+        bisected: true,
     }
 }
 
-fn density_chi(quad: Quad<Float>, (m, t): (u8, f64)) -> Result<f64, Refusal> {
-    match mom::chi2_density_merger(quad.parent_depth, m, t, quad.densities())? {
+fn random<V>(quad: Quad<V>, random: &mut Random) -> Input<V> {
+    Input {
+        parent_hash: Cell::of_depth(quad.parent_depth, random).hash,
+        quad,
+        bisected: random.below(16) == 0,
+    }
+}
+
+impl<V: Copy> Input<V> {
+    /// The parent, with a cell in it before it.
+    fn list(&self, is_listed: bool) -> Vec<u64> {
+        let parent = Cell {
+            depth: self.quad.parent_depth,
+            hash: self.parent_hash,
+        };
+        match is_listed {
+            true => protected::list_of(&[parent.children()[0], parent]),
+            false => vec![],
+        }
+    }
+}
+
+fn count_chi(input: &Input<u32>, By { m, t, is_listed }: By) -> Result<f64, Refusal> {
+    let Quad {
+        values,
+        parent_depth,
+    } = input.quad;
+    let (hash, list) = (input.parent_hash, input.list(is_listed));
+    match mom::chi2_count_merger(parent_depth, hash, m, t, &list, values)? {
+        CountMerge::Kept(chi) => Ok(chi),
+        CountMerge::Merged(_) => panic!("merged at M = {m}, T = {t} and {list:?}"),
+    }
+}
+
+fn density_chi(input: &Input<Float>, By { m, t, is_listed }: By) -> Result<f64, Refusal> {
+    let (parent_depth, densities) = (input.quad.parent_depth, input.quad.densities());
+    let (hash, list) = (input.parent_hash, input.list(is_listed));
+    match mom::chi2_density_merger(parent_depth, hash, m, t, &list, densities)? {
         DensityMerge::Kept(chi) => Ok(chi),
-        DensityMerge::Merged(_) => panic!("merged at M = {m} and T = {t}"),
+        DensityMerge::Merged(_) => panic!("merged at M = {m}, T = {t} and {list:?}"),
     }
 }
 
@@ -75,20 +126,22 @@ impl Kind for CountChi {
         Some(random(Quad::<u32>::random(source), source))
     }
 
-    fn ours(&Input { quad, .. }: &Input<u32>) -> Answer {
-        let at_the_least_t = match u32::are_blank(quad.values) {
-            true => KEPT_BY_BOTH,
-            false => KEPT_BY_T,
+    fn ours(input: &Input<u32>) -> Answer {
+        let m = match u32::are_blank(input.quad.values) {
+            true => BY_M.m,
+            false => 0,
         };
-        [KEPT_BY_M, at_the_least_t].map(|by| count_chi(quad, by).map(comparable))
+        let ways = [BY_M, By { m, ..BY_T }, By { m, ..BY_LIST }];
+        ways.map(|by| count_chi(input, by).map(comparable))
     }
 
-    fn original(&Input { quad, bisected }: &Input<u32>) -> Answer {
-        let chi = match count_chi(quad, KEPT_BY_M) {
-            Ok(ours) if !bisected => run::chi_of_counts_near(ours, quad.parent_depth, quad.values),
-            _ => run::chi_of_counts(quad.parent_depth, quad.values),
+    fn original(input: &Input<u32>) -> Answer {
+        let (p, counts) = (input.quad.parent_depth, input.quad.values);
+        let chi = match count_chi(input, BY_M) {
+            Ok(ours) if !input.bisected => run::chi_of_counts_near(ours, p, counts),
+            _ => run::chi_of_counts(p, counts),
         };
-        [Ok(chi.map(Float)); 2]
+        [Ok(chi.map(Float)); 3]
     }
 }
 
@@ -106,16 +159,16 @@ impl Kind for DensityChi {
         Some(random(Quad::<Float>::random(source), source))
     }
 
-    fn ours(&Input { quad, .. }: &Input<Float>) -> Answer {
-        [KEPT_BY_M, KEPT_BY_T].map(|by| density_chi(quad, by).map(comparable))
+    fn ours(input: &Input<Float>) -> Answer {
+        [BY_M, BY_T, BY_LIST].map(|by| density_chi(input, by).map(comparable))
     }
 
-    fn original(&Input { quad, bisected }: &Input<Float>) -> Answer {
-        let (p, densities) = (quad.parent_depth, quad.densities());
-        let chi = match density_chi(quad, KEPT_BY_M) {
-            Ok(ours) if !bisected => run::chi_of_densities_near(ours, p, densities),
+    fn original(input: &Input<Float>) -> Answer {
+        let (p, densities) = (input.quad.parent_depth, input.quad.densities());
+        let chi = match density_chi(input, BY_M) {
+            Ok(ours) if !input.bisected => run::chi_of_densities_near(ours, p, densities),
             _ => run::chi_of_densities(p, densities),
         };
-        [Ok(chi.map(Float)); 2]
+        [Ok(chi.map(Float)); 3]
     }
 }

@@ -1,4 +1,5 @@
-//! The density merger: whether the four are kept, and the merged density by bits. The chi of those
+//! The density merger: whether the four are kept, and the merged density by bits, beside the original's
+//! merger behind the test of protected parents, and beside the scope's table of refusals. The chi of those
 //! kept is for `density_chi`.
 
 use mom::{DensityMerge, Refusal};
@@ -20,9 +21,16 @@ impl Kind for DensityMerger {
     type Answer = Result<Option<Float>, Refusal>;
 
     fn small() -> impl Iterator<Item = Call<Float>> {
-        DEPTHS.into_iter().flat_map(|(parent_depth, m)| {
+        let unlisted = DEPTHS.into_iter().flat_map(|(parent_depth, m)| {
             Quad::<Float>::small(parent_depth).flat_map(move |quad| Call::all(quad, m, quad.chi()))
-        })
+        });
+        let depths = [0, 1, 28].into_iter();
+        let listed = depths.flat_map(|parent_depth| {
+            let quads = Quad::<Float>::small(parent_depth);
+            let equal = quads.filter(|quad| quad.values == [quad.values[0]; 4]);
+            equal.flat_map(Call::listed)
+        });
+        unlisted.chain(listed)
     }
 
     fn random(random: &mut Random) -> Option<Call<Float>> {
@@ -35,20 +43,22 @@ impl Kind for DensityMerger {
             call.depth_threshold,
             call.chi2_threshold.0,
         );
-        Ok(
-            match mom::chi2_density_merger(p, m, t, call.quad.densities())? {
-                DensityMerge::Merged(density) => Some(Float(density)),
-                DensityMerge::Kept(_) => None,
-            },
-        )
+        let (hash, protected) = (call.parent_hash, &call.protected);
+        let answer = mom::chi2_density_merger(p, hash, m, t, protected, call.quad.densities())?;
+        Ok(match answer {
+            DensityMerge::Merged(density) => Some(Float(density)),
+            DensityMerge::Kept(_) => None,
+        })
     }
 
     fn original(call: &Call<Float>) -> Self::Answer {
-        let (p, m, t) = (
-            call.quad.parent_depth,
-            call.depth_threshold,
-            call.chi2_threshold.0,
-        );
-        Ok(run::merge_densities(p, m, t, call.quad.densities()).map(Float))
+        if let Some(refusal) = call.refusal() {
+            return Err(refusal);
+        }
+        let parent = (call.quad.parent_depth, call.parent_hash);
+        let (m, t) = (call.depth_threshold, call.chi2_threshold.0);
+        let protects = run::listed(&call.protected);
+        let merged = run::merge_densities(parent, m, t, protects, call.quad.densities());
+        Ok(merged.map(Float))
     }
 }

@@ -202,7 +202,7 @@ pub struct MoveBuilt<Z>(PhantomData<Z>);
 
 fn built<Z: Width>(list: &List<u32>) -> Vec<(Z, u32)> {
     let (m, t) = (list.depth_threshold, list.chi2_threshold.0);
-    run::build_counts(list.depth, m, t, list.cells().into_iter())
+    run::build_counts(list.depth, m, t, run::unprotected, list.cells().into_iter())
 }
 
 impl<Z: Width> Kind for MoveBuilt<Z> {

@@ -63,7 +63,8 @@ impl Combine for u32 {
             let entries = map.zuniqs.iter().copied().zip(map.values.iter().copied());
             run::mom(map.depth, entries.collect())
         });
-        let (_, entries) = run::pool(left, right, input.depth_threshold, input.chi2_threshold.0);
+        let (m, t) = (input.depth_threshold, input.chi2_threshold.0);
+        let (_, entries) = run::pool(left, right, m, t, run::listed(&input.protected));
         entries
     }
 }
@@ -76,7 +77,8 @@ impl Call for u32 {
             values: &map.values,
         });
         let (m, t) = (input.depth_threshold, input.chi2_threshold.0);
-        let Added { entries, total } = mom::pool(left, right, m, t, zuniqs, counts)?;
+        let list = &input.protected;
+        let Added { entries, total } = mom::pool(left, right, m, t, list, zuniqs, counts)?;
         Ok((entries, total))
     }
 }

@@ -87,8 +87,16 @@ impl Combine for Float {
                 map.zuniqs.iter().copied().zip(densities).collect(),
             )
         });
-        let (m, t) = (input.depth_threshold, input.chi2_threshold.0);
-        let (_, entries) = run::product(left, right, input.factor.0, m, t);
+        let (k, m, t) = (
+            input.factor.0,
+            input.depth_threshold,
+            input.chi2_threshold.0,
+        );
+        // Without a list its own product, which takes no merger.
+        let (_, entries) = match &input.protected[..] {
+            [] => run::product_by_chi(left, right, k, m, t),
+            list => run::product(left, right, k, m, t, run::listed(list)),
+        };
         let entries = entries.into_iter();
         entries.map(|(zuniq, m)| (zuniq, Float(m))).collect()
     }
@@ -114,7 +122,8 @@ impl Call for Float {
             input.factor.0,
         );
         let mut densities = numbers(values);
-        let answer = mom::product(left, right, m, t, k, zuniqs, &mut densities);
+        let list = &input.protected;
+        let answer = mom::product(left, right, m, t, k, list, zuniqs, &mut densities);
         for (place, density) in densities.into_iter().enumerate() {
             values[place] = Float(density);
         }

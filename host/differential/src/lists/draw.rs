@@ -4,6 +4,7 @@ use super::Value;
 use crate::{
     cells::{n_hash, Cell, DEPTH_MAX},
     floats::Float,
+    protected,
     quads::NOT_ABOVE_0,
     random::{any_of, Random},
     widths::Width,
@@ -29,6 +30,8 @@ pub struct Input<V, Z = u64> {
     pub depth_threshold: u8,
     /// T
     pub chi2_threshold: Float,
+    /// One list for all calls.
+    pub protected: Vec<Z>,
     /// How many places the buffers have.
     pub(super) places: usize,
     /// What stands in every place before the first call.
@@ -52,6 +55,8 @@ pub(super) enum Fault<V> {
     Depth(u8),
     DepthThreshold(u8),
     Chi2Threshold,
+    /// The change is drawn from this seed.
+    Protected(u64),
     ZuniqsShorter,
     ValuesShorter,
     HashesShorter,
@@ -73,7 +78,7 @@ impl<V: Value> Fault<V> {
         let place = random.below(256) as usize;
         let largest = Z::of(u64::MAX).bits();
         let value = any_of(random, V::faulty());
-        match random.below(17) {
+        match random.below(19) {
             0 => Fault::Depth([0, Z::DEPTH_MAX + 1, 255][place % 3]),
             1 => Fault::DepthThreshold([30, 255][place % 2]),
             2 => Fault::Chi2Threshold,
@@ -90,6 +95,7 @@ impl<V: Value> Fault<V> {
             13 => Fault::HashPast(place, [0, 1, largest >> 8][place % 3]),
             14 => Fault::HashNotAbove(place),
             15 => Fault::BatchValue(place, value),
+            16 | 17 => Fault::Protected(random.bits()),
             _ => Fault::OnePlaceShort,
         }
     }
@@ -132,7 +138,7 @@ impl<V: Value> List<V> {
         let len = random.below(longest);
         let hashes = hashes(random, depth, len);
         let mut values = V::random(random, depth, hashes.len());
-        let is_blank = random.below(8) == 0;
+        let is_blank = random.below(5) == 0;
         if is_blank {
             blank(random, &mut values);
         }
@@ -161,12 +167,29 @@ impl<V: Value> List<V> {
     }
 }
 
+/// None; each parent of the small lists' cells; a parent's parent; a parent with its parent; a cell that is
+/// no parent but of a smaller one; and one that lies outside.
+const SMALL_PROTECTED: [&[Cell]; 6] = [
+    &[],
+    &[Cell { depth: 0, hash: 0 }],
+    &[Cell { depth: 0, hash: 1 }, Cell { depth: 1, hash: 0 }],
+    &[Cell { depth: 1, hash: 3 }],
+    &[Cell { depth: 1, hash: 1 }, Cell { depth: 0, hash: 0 }],
+    &[Cell { depth: 2, hash: 0 }, Cell { depth: 0, hash: 11 }],
+];
+
 impl<V: Value, Z: Width> Input<V, Z> {
-    /// The small lists, cut at every point.
+    /// The small lists, cut at every point, under each of some lists of protected parents.
     pub(super) fn small() -> impl Iterator<Item = Self> {
         List::small().flat_map(|list| {
             let cuts = 0..=list.hashes.len();
-            cuts.map(move |cut| Self::in_two(&list, cut))
+            cuts.flat_map(move |cut| {
+                let inputs = SMALL_PROTECTED.iter().map(|protected| Input {
+                    protected: protected::list_of(protected),
+                    ..Self::in_two(&list, cut)
+                });
+                inputs.collect::<Vec<_>>()
+            })
         })
     }
 
@@ -187,6 +210,7 @@ impl<V: Value, Z: Width> Input<V, Z> {
             depth: list.depth,
             depth_threshold: list.depth_threshold,
             chi2_threshold: list.chi2_threshold,
+            protected: vec![],
             places: cells.len() + 1,
             content: u64::MAX,
         }
@@ -202,7 +226,14 @@ impl<V: Value, Z: Width> Input<V, Z> {
             _ => cells.len() + random.below(20) as usize,
         };
         let base = Cell { depth: 0, hash: 0 }.zuniq::<Z>().bits();
+        let depth = list.depth;
+        let at_depth: Vec<Cell> = list
+            .hashes
+            .iter()
+            .map(|&hash| Cell { depth, hash })
+            .collect();
         Input {
+            protected: protected::random(random, &at_depth),
             calls: calls(random, &cells),
             depth: list.depth,
             depth_threshold: list.depth_threshold,

@@ -1,6 +1,7 @@
-//! Lists of add calls, of counts or of densities: rising cells cut into batches, with calls between
-//! them that are to be refused. After each call the answer and both buffers whole are compared with
-//! what the original builds from all accepted batches joined, and with the scope's table of refusals.
+//! Lists of add calls, of counts or of densities: rising cells cut into batches, under one list of
+//! protected parents, with calls between them that are to be refused. After each call the answer and both
+//! buffers whole are compared with what the original builds from all accepted batches joined, and with the
+//! scope's table of refusals.
 
 mod draw;
 mod replay;
@@ -58,8 +59,8 @@ pub trait Build<Z: Width>: Value {
     /// Our call.
     fn add(call: Arguments<Self, Z>) -> Answer<Self>;
 
-    /// What the original builds from cells of a depth.
-    fn build(depth: u8, m: u8, t: f64, cells: &[(Z, Self)]) -> Vec<(Z, Self)>;
+    /// What the original builds from cells of a depth under a list of protected parents.
+    fn build(depth: u8, m: u8, t: f64, protected: &[Z], cells: &[(Z, Self)]) -> Vec<(Z, Self)>;
 }
 
 /// All arguments of one call.
@@ -69,6 +70,7 @@ pub struct Arguments<'a, V, Z = u64> {
     pub depth_threshold: u8,
     /// T
     pub chi2_threshold: f64,
+    pub protected: &'a [Z],
     pub held: usize,
     pub zuniqs: &'a mut [Z],
     pub values: &'a mut [V],
@@ -110,7 +112,7 @@ impl<V: Build<Z>, Z: Width> Kind for Add<V, Z> {
             }
             joined.extend(call.hashes.iter().copied().zip(call.batch.iter().copied()));
             let (m, t) = (call.depth_threshold, call.chi2_threshold);
-            let entries = V::build(call.depth, m, t, &joined);
+            let entries = V::build(call.depth, m, t, call.protected, &joined);
             call.zuniqs.fill(Z::of(0));
             call.values.fill(V::ZERO);
             for (place, &(zuniq, value)) in entries.iter().enumerate() {

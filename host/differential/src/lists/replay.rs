@@ -9,6 +9,8 @@ use super::{
 };
 use crate::{
     cells::{n_hash, Cell},
+    protected,
+    random::Random,
     widths::Width,
 };
 
@@ -25,6 +27,7 @@ struct Lent<V, Z> {
     depth: u8,
     m: u8,
     t: f64,
+    protected: Vec<Z>,
     held: usize,
     /// How much of each buffer is lent.
     places: [usize; 2],
@@ -40,6 +43,7 @@ impl<V: Value, Z: Width> Lent<V, Z> {
             depth: input.depth,
             m: input.depth_threshold,
             t: input.chi2_threshold.0,
+            protected: input.protected.clone(),
             held: kept.held,
             places: [if exactly { full } else { input.places }; 2],
             buffers: kept.clone(),
@@ -58,6 +62,9 @@ impl<V: Value, Z: Width> Lent<V, Z> {
             Fault::Depth(other) => self.depth = other,
             Fault::DepthThreshold(other) => self.m = other,
             Fault::Chi2Threshold => self.t = f64::NAN,
+            Fault::Protected(seed) => {
+                protected::change(&mut Random::new(seed), &mut self.protected);
+            }
             Fault::ZuniqsShorter => self.places[0] = self.places[0].saturating_sub(1),
             Fault::ValuesShorter => self.places[1] = self.places[1].saturating_sub(1),
             Fault::HashesShorter => call.hashes.truncate(cells.saturating_sub(1)),
@@ -101,6 +108,7 @@ impl<V: Value, Z: Width> Lent<V, Z> {
             depth: self.depth,
             depth_threshold: self.m,
             chi2_threshold: self.t,
+            protected: &self.protected,
             held: self.held,
             zuniqs: &mut self.buffers.zuniqs[..of_zuniqs],
             values: &mut self.buffers.values[..of_values],

@@ -6,6 +6,7 @@ use super::{Arguments, Value};
 use crate::{
     cells::{n_hash, Cell, DEPTH_MAX},
     maps::faulty_entry,
+    protected::faulty_place,
     widths::Width,
 };
 
@@ -20,7 +21,12 @@ pub fn end_of<Z: Width>(held: &[Z], depth: u8) -> u64 {
 impl<V: Value, Z: Width> Arguments<'_, V, Z> {
     /// What the table says of the call, in its order.
     pub fn refusal(&self) -> Option<Refusal> {
-        let (number, place) = self.refused_setting().or_else(|| {
+        self.refusal_by(faulty_place)
+    }
+
+    /// The same, with another reading of row 15.
+    pub fn refusal_by(&self, faulty_place: fn(&[Z]) -> Option<usize>) -> Option<Refusal> {
+        let (number, place) = self.refused_setting(faulty_place).or_else(|| {
             let held = &self.values[..self.held];
             self.refused_entry()
                 .or_else(|| self.refused_cell())
@@ -30,18 +36,20 @@ impl<V: Value, Z: Width> Arguments<'_, V, Z> {
         Some(Refusal::of(number, place).unwrap())
     }
 
-    /// Rows 1 to 4. M is at most 29 for narrow maps too.
-    fn refused_setting(&self) -> Option<(u8, usize)> {
+    /// Rows 1 to 4, 15 being tried after 3. M is at most 29 for narrow maps too.
+    fn refused_setting(&self, faulty_place: fn(&[Z]) -> Option<usize>) -> Option<(u8, usize)> {
         let places = self.zuniqs.len();
         let lengths_differ = places != self.values.len() || self.hashes.len() != self.batch.len();
         let rows = [
             (1, self.depth > Z::DEPTH_MAX),
             (2, self.depth_threshold > DEPTH_MAX),
             (3, self.chi2_threshold.is_nan()),
-            (4, lengths_differ || self.held > places),
         ];
-        let (number, _) = rows.into_iter().find(|&(_, refused)| refused)?;
-        Some((number, 0))
+        let setting = rows.into_iter().find(|&(_, refused)| refused);
+        setting
+            .map(|(number, _)| (number, 0))
+            .or_else(|| faulty_place(self.protected).map(|place| (15, place)))
+            .or_else(|| (lengths_differ || self.held > places).then_some((4, 0)))
     }
 
     /// Rows 5 and 6.

@@ -6,6 +6,7 @@ use crate::{
     floats::{near, Float},
     lists::{blank, Value},
     maps::Map,
+    protected,
     quads::NOT_ABOVE_0,
     random::{any_of, Random},
     widths::Width,
@@ -13,7 +14,8 @@ use crate::{
 
 impl<V: Combine> Input<V> {
     /// All pairs of maps in the first base cell down to depth 1, with few values, and with nothing but
-    /// 0; and an entry of any depth in one of any other, at both ends and in between.
+    /// 0; and an entry of any depth in one of any other, at both ends and in between. All of them also
+    /// under lists that protect a parent, or what might be taken for it.
     pub(super) fn small() -> impl Iterator<Item = Self> {
         let settings = [(0, 0.0), (0, 3.5), (0, f64::INFINITY), (1, f64::INFINITY)];
         let few = in_a_base_cell(V::few(), settings);
@@ -31,8 +33,18 @@ impl<V: Combine> Input<V> {
             depth_threshold: m,
             chi2_threshold: Float(t),
             factor: Float(1.0),
+            protected: vec![],
             content: u64::MAX,
         }
+    }
+
+    /// Without a list, and under each of these.
+    fn under<const N: usize>(self, lists: [&[Cell]; N]) -> Vec<Self> {
+        let listed = lists.into_iter().map(|list| Input {
+            protected: protected::list_of(list),
+            ..self.clone()
+        });
+        listed.chain([self.clone()]).collect()
     }
 
     /// With places for all, and one more.
@@ -81,6 +93,8 @@ impl<V: Combine> Input<V> {
             return input;
         }
         let kept = input.kept();
+        let cells: Vec<Cell> = kept.iter().map(|&(cell, _)| cell).collect();
+        input.protected = protected::random(random, &cells);
         input.chi2_threshold = Float(threshold(random, &kept));
         input.depth_threshold = match random.below(4) {
             0 => random.below(DEPTH_MAX as u64 + 1) as u8,
@@ -103,6 +117,10 @@ impl<V: Combine> Input<V> {
                 input.left.change(random);
                 input.right.change(random);
             }
+            5 => {
+                input.change(random);
+                protected::change(random, &mut input.protected);
+            }
             _ => {}
         }
         input
@@ -111,7 +129,7 @@ impl<V: Combine> Input<V> {
     /// Makes a change by which the call is refused, or may be.
     fn change(&mut self, random: &mut Random) {
         let over = any_of(random, &[30, 31, 255]);
-        match random.below(10) {
+        match random.below(12) {
             0 => self.depth_threshold = over,
             1 => self.chi2_threshold = Float(any_of(random, &[f64::NAN, -f64::NAN])),
             2 => {
@@ -122,6 +140,7 @@ impl<V: Combine> Input<V> {
             4 => self.places = self.places.map(|places| places.saturating_sub(1)),
             5 if random.coin() => self.left.depth = over,
             5 => self.right.depth = over,
+            6 | 7 => protected::change(random, &mut self.protected),
             _ if random.coin() => self.left.change(random),
             _ => self.right.change(random),
         }
@@ -173,7 +192,12 @@ fn in_a_base_cell<V: Combine>(
     let maps = maps_of_a_base_cell(few);
     (0..maps.len() * maps.len()).flat_map(move |pair| {
         let (left, right) = (&maps[pair / maps.len()], &maps[pair % maps.len()]);
-        settings.map(|(m, t)| Input::new(left.clone(), right.clone(), m, t).with_places())
+        let inputs = settings.map(|(m, t)| Input::new(left.clone(), right.clone(), m, t));
+        let base = Cell { depth: 0, hash: 0 };
+        let [child, ..] = base.children();
+        let lists = [&[base][..], &[child], &[child, base.neighbour(), base]];
+        let inputs = inputs.map(|input| input.with_places().under(lists));
+        inputs.into_iter().flatten()
     })
 }
 
@@ -203,7 +227,11 @@ fn nested<V: Combine>() -> impl Iterator<Item = Input<V>> {
             values.flat_map(move |value| {
                 let map = |cell: Cell| Given::new(cell.depth, &[cell], vec![value]);
                 let inputs = [f64::NEG_INFINITY, f64::INFINITY];
-                inputs.map(|t| Input::new(map(over), map(under), 0, t).with_places())
+                let inputs = inputs.map(|t| Input::new(map(over), map(under), 0, t).with_places());
+                let middle = under.ancestor((top + bottom) / 2);
+                inputs
+                    .into_iter()
+                    .flat_map(move |input| input.under([&[over], &[middle, under]]))
             })
         })
     })

@@ -92,6 +92,7 @@ pub struct Input<V> {
     pub chi2_threshold: Float,
     /// k, which pooling has no use for.
     pub factor: Float,
+    pub protected: Vec<u64>,
     /// What stands in every place before the call.
     pub content: u64,
 }

@@ -6,6 +6,7 @@ use super::{overlay, Combine, Given, Input};
 use crate::{
     cells::{Cell, DEPTH_MAX},
     maps::faulty_entry,
+    protected::faulty_place,
 };
 
 impl<V: Combine> Given<V> {
@@ -30,27 +31,34 @@ impl<V: Combine> Input<V> {
 
     /// What the table says of the call, in its order.
     pub fn refusal(&self) -> Option<Refusal> {
-        let refused = self.refused_setting().map(|number| (number, 0));
-        let (number, place) = refused
+        self.refusal_by(faulty_place)
+    }
+
+    /// The same, with another reading of row 15.
+    pub fn refusal_by(&self, faulty_place: fn(&[u64]) -> Option<usize>) -> Option<Refusal> {
+        let (number, place) = self
+            .refused_setting(faulty_place)
             .or_else(|| self.refused_entry())
             .or_else(|| self.refused_kept().map(|number| (number, 0)))?;
         Some(Refusal::of(number, place).unwrap())
     }
 
-    /// Rows 1 to 4.
-    fn refused_setting(&self) -> Option<u8> {
+    /// Rows 1 to 4, 15 being tried after 3.
+    fn refused_setting(&self, faulty_place: fn(&[u64]) -> Option<usize>) -> Option<(u8, usize)> {
         let maps = [&self.left, &self.right];
         let differ = maps.map(|map| map.zuniqs.len() != map.values.len());
+        let lengths_differ = differ[0] || differ[1] || self.places[0] != self.places[1];
         let rows = [
             (1, maps.iter().any(|map| map.depth > DEPTH_MAX)),
             (2, self.depth_threshold > DEPTH_MAX),
             (3, self.chi2_threshold.0.is_nan()),
             (3, V::is_invalid_factor(self.factor.0)),
-            (4, differ[0] || differ[1]),
-            (4, self.places[0] != self.places[1]),
         ];
-        let (number, _) = rows.into_iter().find(|&(_, refused)| refused)?;
-        Some(number)
+        let setting = rows.into_iter().find(|&(_, refused)| refused);
+        setting
+            .map(|(number, _)| (number, 0))
+            .or_else(|| faulty_place(&self.protected).map(|place| (15, place)))
+            .or_else(|| lengths_differ.then_some((4, 0)))
     }
 
     /// Rows 5 and 6, in each the left map before the right one.

@@ -2,18 +2,19 @@
 //! given what the original builds from the cells before, and held to what it builds from all.
 
 use differential::{
-    cells::n_hash,
+    cells::{n_hash, Cell},
     floats::Float,
     lists::{Build, Value},
+    protected,
     random::{any_of, Random},
     widths::Width,
 };
 
-use crate::{Line, Number};
+use crate::{Line, Number, MOST_PROTECTED};
 
 pub fn print_counts<Z: Width + Number>(random: &mut Random, drawn: usize) {
-    for _ in 0..drawn {
-        let list = List::<u32, Z>::random(random);
+    for number in 0..drawn {
+        let list = List::<u32, Z>::draw(random, number);
         list.line(with_total).print();
     }
 }
@@ -38,6 +39,7 @@ pub fn print_blank<Z: Width + Number>() {
             depth: 2,
             m,
             t: Float(t),
+            protected: vec![],
             cells: (0..16).map(|hash| (Z::of(hash), count(hash))).collect(),
             cut,
         };
@@ -46,8 +48,8 @@ pub fn print_blank<Z: Width + Number>() {
 }
 
 pub fn print_densities(random: &mut Random, drawn: usize) {
-    for _ in 0..drawn {
-        let list = List::<Float, u64>::random(random);
+    for number in 0..drawn {
+        let list = List::<Float, u64>::draw(random, number);
         list.line(|line, _| line).print();
     }
 }
@@ -57,11 +59,27 @@ struct List<V, Z> {
     depth: u8,
     m: u8,
     t: Float,
+    protected: Vec<Z>,
     cells: Vec<(Z, V)>,
     cut: usize,
 }
 
 impl<V: Build<Z> + Number, Z: Width + Number> List<V, Z> {
+    /// One in four comes out otherwise without its protected parents.
+    fn draw(random: &mut Random, number: usize) -> Self {
+        loop {
+            let list = Self::random(random);
+            let unlisted = V::build(list.depth, list.m, list.t.0, &[], &list.cells);
+            if number % 4 != 1 || list.build(&list.cells) != unlisted {
+                return list;
+            }
+        }
+    }
+
+    fn build(&self, cells: &[(Z, V)]) -> Vec<(Z, V)> {
+        V::build(self.depth, self.m, self.t.0, &self.protected, cells)
+    }
+
     /// Cells that follow each other but for a gap now and then, from a border of large cells on or up to
     /// the last cell.
     fn random(random: &mut Random) -> Self {
@@ -84,10 +102,17 @@ impl<V: Build<Z> + Number, Z: Width + Number> List<V, Z> {
             0 => random.below(depth as u64 + 1) as u8,
             _ => 0,
         };
+        let cells = hashes.iter().map(|hash| Cell {
+            depth,
+            hash: hash.bits(),
+        });
+        let mut protected = protected::random(random, &cells.collect::<Vec<_>>());
+        protected.truncate(MOST_PROTECTED);
         List {
             depth,
             m,
             t: Float(threshold(random, depth, &values)),
+            protected,
             cells: hashes.into_iter().zip(values).collect(),
             cut,
         }
@@ -105,8 +130,8 @@ impl<V: Build<Z> + Number, Z: Width + Number> List<V, Z> {
 
     fn line(&self, total: impl Fn(Line, &[V]) -> Line) -> Line {
         let (hashes, values): (Vec<Z>, Vec<V>) = self.cells.iter().copied().unzip();
-        let held = V::build(self.depth, self.m, self.t.0, &self.cells[..self.cut]);
-        let built = V::build(self.depth, self.m, self.t.0, &self.cells);
+        let held = self.build(&self.cells[..self.cut]);
+        let built = self.build(&self.cells);
         // One place more than are needed, and in the free ones what is no zuniq.
         let places = held.len() + self.cells.len() - self.cut + 1;
         let (zuniqs, held_values) = buffers(&held, places, Z::of(2), V::of_content(3));
@@ -114,6 +139,7 @@ impl<V: Build<Z> + Number, Z: Width + Number> List<V, Z> {
             .with(self.depth)
             .with(self.m)
             .with(self.t)
+            .with_list(&self.protected)
             .with(held.len())
             .with_list(&zuniqs)
             .with_list(&held_values)

@@ -9,9 +9,9 @@ use differential::{
 };
 use oracle::run;
 
-use crate::{building::buffers, Line, Number};
+use crate::{building::buffers, Line, Number, MOST_PROTECTED};
 
-const DRAWN: usize = 32;
+const DRAWN: usize = 24;
 
 fn with_total(line: Line, entries: &[(u64, u32)]) -> Line {
     let total: u32 = entries.iter().map(|&(_, count)| count).sum();
@@ -58,23 +58,25 @@ fn case<V: Combine>((depth, hash): (u8, u64), [left, right]: [V; 2], t: f64) -> 
         depth_threshold: 0,
         chi2_threshold: Float(t),
         factor: Float(1.0),
+        protected: vec![],
         content: 0,
     }
 }
 
 /// Prints the first pairs of maps drawn that no call of ours refuses and that a line has room for. All but
-/// one in eight have entries that overlap.
+/// one in eight have entries that overlap, and one in four comes out otherwise without its list.
 fn draw<V: Combine + Number>(
     random: &mut Random,
     total: impl Fn(Line, &[(u64, V)]) -> Line + Copy,
 ) {
     let mut printed = 0;
     while printed < DRAWN {
-        let input = Input::<V>::any(random);
+        let mut input = Input::<V>::any(random);
+        input.protected.truncate(MOST_PROTECTED);
         if input.left.zuniqs.len() + input.right.zuniqs.len() > 24 || input.refusal().is_some() {
             continue;
         }
-        if printed % 8 > 0 && !meet(&input) {
+        if printed % 8 > 0 && !meet(&input) || printed % 4 == 1 && !is_protected(&input) {
             continue;
         }
         printed += usize::from(print_pair(&input, total));
@@ -85,6 +87,13 @@ fn meet<V: Combine>(input: &Input<V>) -> bool {
     let (left, right) = (input.left.entries(), input.right.entries());
     let overlaps = |l: &Cell| right.iter().any(|(r, _)| l.overlaps(*r));
     left.iter().any(|(l, _)| overlaps(l))
+}
+
+/// Whether the list keeps a quad.
+fn is_protected<V: Combine>(input: &Input<V>) -> bool {
+    let mut unlisted = input.clone();
+    unlisted.protected.clear();
+    V::original(&unlisted) != V::original(input)
 }
 
 /// Whether the pair was printed: a line has room for it.
@@ -114,7 +123,10 @@ fn line<V: Combine + Number>(
     if V::CALL == "product" {
         line = line.with(input.factor);
     }
-    line = line.with_list(&zuniqs).with_list(&values);
+    line = line
+        .with_list(&input.protected)
+        .with_list(&zuniqs)
+        .with_list(&values);
     let (zuniqs, values) = buffers(entries, places, 0, V::ZERO);
     total(line.with(entries.len()), entries)
         .with_list(&zuniqs)

@@ -4,8 +4,8 @@
 //! its 64-bit pattern. `crates/replay/src/call.rt` sets out the numbers of each call.
 //!
 //! The choice of arguments is fixed: small ones, and some that a fixed seed draws. Every answer is the
-//! original's, with its count merger behind the test of blank quads, on arguments that no call of ours
-//! refuses; nothing here calls our library.
+//! original's, with its mergers behind the tests of blank quads and of protected parents, on arguments that
+//! no call of ours refuses; nothing here calls our library.
 
 mod building;
 mod cells;
@@ -21,10 +21,10 @@ fn main() {
     cells::print();
     cells::print_zuniqs::<u64>();
     mergers::print(&mut random(2));
-    maps::print::<u64>(&mut random(3), 40);
+    maps::print::<u64>(&mut random(3), 32);
     let building = &mut random(4);
     building::print_counts::<u64>(building, 32);
-    building::print_densities(building, 32);
+    building::print_densities(building, 28);
     combining::print(&mut random(5));
     rows::print(&mut random(7), 16);
     print_narrow(&mut random(8));
@@ -56,6 +56,9 @@ fn random(section: u64) -> Random {
 /// How many numbers a line holds, and how many of them a list, as the replay program reads them.
 const MOST: usize = 128;
 const MOST_ITEMS: usize = 48;
+
+/// The most protected parents of a drawn call: the stored sample has room for few.
+const MOST_PROTECTED: usize = 3;
 
 /// A line, from its word on.
 struct Line {

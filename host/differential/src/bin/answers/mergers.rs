@@ -9,7 +9,7 @@ use differential::{
 };
 use oracle::run;
 
-use crate::{Line, Number};
+use crate::{Line, Number, MOST_PROTECTED};
 
 /// The scope's cases and those of blank quads, at T and M.
 const CASES: [([u32; 4], f64, u8); 14] = [
@@ -39,23 +39,29 @@ pub fn print(random: &mut Random) {
         },
         depth_threshold: m,
         chi2_threshold: Float(t),
+        protected: vec![],
+        parent_hash: 0,
     });
     let drawn: Vec<Call<u32>> = (0..DRAWN).map(|_| Call::<u32>::any(random)).collect();
-    for call in cases.into_iter().chain(drawn) {
+    for mut call in cases.into_iter().chain(drawn) {
+        call.protected.truncate(MOST_PROTECTED);
         let Quad {
             values,
-            parent_depth,
+            parent_depth: p,
         } = call.quad;
         let (m, t) = (call.depth_threshold, call.chi2_threshold.0);
-        let merged = run::merge_counts(parent_depth, m, t, values);
-        let chi = || run::chi_of_counts(parent_depth, values);
+        let (parent, protects) = ((p, call.parent_hash), run::listed(&call.protected));
+        let merged = run::merge_counts(parent, m, t, protects, values);
+        let chi = || run::chi_of_counts(p, values);
         print_call("chi2_count_merger", &call, merged, chi);
     }
     for _ in 0..DRAWN {
-        let call = Call::<Float>::random(random);
+        let mut call = Call::<Float>::sound(random);
+        call.protected.truncate(MOST_PROTECTED);
         let (densities, p) = (call.quad.densities(), call.quad.parent_depth);
         let (m, t) = (call.depth_threshold, call.chi2_threshold.0);
-        let merged = run::merge_densities(p, m, t, densities).map(Float);
+        let (parent, protects) = ((p, call.parent_hash), run::listed(&call.protected));
+        let merged = run::merge_densities(parent, m, t, protects, densities).map(Float);
         let chi = || run::chi_of_densities(p, densities);
         print_call("chi2_density_merger", &call, merged, chi);
     }
@@ -69,8 +75,10 @@ fn print_call<V: Number>(
 ) {
     let line = Line::new(word)
         .with(call.quad.parent_depth)
+        .with(call.parent_hash)
         .with(call.depth_threshold)
         .with(call.chi2_threshold)
+        .with_list(&call.protected)
         .with_all(&call.quad.values);
     match (merged, chi()) {
         (Some(value), _) => line.with(1u8).with(value).print(),
