@@ -17,8 +17,11 @@ use Rattle.zuniq.specs.Told.{toldCells, toldZuniq, toldZuniq32, toldCell, toldC
 use Rattle.zuniq.specs.declared.Encoded.{Encoded}
 use Rattle.zuniq.specs.declared.Decoded.{Decoded}
 use Rattle.merger.specs.Floats.{invalidDensity}
-use Rattle.merger.specs.Merge.{acceptCounts, acceptDensities, mergeCounts, countMerger, mergeDensities, firstInvalid, densityMerger}
-use Rattle.merger.specs.Told.{toldCountMerge, toldDensityMerge, toldCountMerger, toldDensityMerger}
+use Rattle.protection.specs.Protected.{protectedRefusal}
+use Rattle.merger.specs.Merge.{quadRefusal, acceptCounts, acceptDensities, mergeCounts, countMergerOr, countMerger, mergeDensities, firstInvalid, densityMergerOr, densityMerger}
+use Rattle.merger.specs.declared.CountMerge.{CountMerge}
+use Rattle.merger.specs.declared.DensityMerge.{DensityMerge}
+use Rattle.merger.specs.Told.{Four, toldCountMerge, toldDensityMerge, toldCountMerger, toldDensityMerger}
 use Rattle.mom.specs.Map.{firstFault, validOr, mapCheck}
 use Rattle.mom.specs.Lookup.{placeFrom, queryAt, containing, firstFrom, overlapped, runOr, overlapping}
 use Rattle.mom.specs.Told.{toldCheck, toldContaining, toldRun}
@@ -109,26 +112,55 @@ are-overlapping-tells K l r = go (decode K l) (decode K r)
     go (Decoded.Cell c) (Decoded.Cell e) = refl
 
 -- ---- section 2
--- The count merger: 1, 2, 3, 10.
-pub count-merger-tells : (M : ℕ) (T : Float) (p n0 n1 n2 n3 : ℕ) → toldCountMerger (countMerger M T p n0 n1 n2 n3)
-    ≡ row 1 (ltb 28 p) (row 2 (ltb 29 M) (row 3 (isNan T) (row 10 (ltb 4294967295 (n0 + n1 + n2 + n3)) (Told.answer (toldCountMerge (mergeCounts M T p 0 n0 n1 n2 n3))))))
-unfolding countMerger
-count-merger-tells M T p n0 n1 n2 n3 =
-    of-choice toldCountMerger (ltb 28 p) _ _
-    ∙ ap (row 1 (ltb 28 p)) (of-choice toldCountMerger (ltb 29 M) _ _
-    ∙ ap (row 2 (ltb 29 M)) (of-choice toldCountMerger (isNan T) _ _
-    ∙ ap (row 3 (isNan T)) (of-choice toldCountMerger (ltb 4294967295 (n0 + n1 + n2 + n3)) _ _)))
+-- what both merger calls refuse: 1, 2, 3, 15 with the index, 7
+module _ {X : Type 0} (P : List ℕ) (M : ℕ) (T : Float) (p h : ℕ) (next : Told X) where
+  quad-rows : rowsOf (quadRefusal P M T p h) next ≡ row 1 (ltb 28 p) (row 2 (ltb 29 M) (row 3 (isNan T) (rowsOf (protectedRefusal 29 P) (row 7 (leb (nHash p) h) next))))
+  unfolding quadRefusal
+  quad-rows =
+      in-order (refusedIf (ltb 28 p) Refusal.DepthOutOfRange) _ next
+      ∙ one-row (ltb 28 p) _ _
+      ∙ ap (row 1 (ltb 28 p)) (in-order (refusedIf (ltb 29 M) Refusal.DepthThresholdOutOfRange) _ next
+      ∙ one-row (ltb 29 M) _ _
+      ∙ ap (row 2 (ltb 29 M)) (in-order (refusedIf (isNan T) Refusal.Chi2ThresholdIsNan) _ next
+      ∙ one-row (isNan T) _ _
+      ∙ ap (row 3 (isNan T)) (in-order (protectedRefusal 29 P) _ next
+      ∙ ap (rowsOf (protectedRefusal 29 P)) (one-row (leb (nHash p) h) _ next))))
 
--- The density merger: 1, 2, 3, 9 with the child's place.
-pub density-merger-tells : (M : ℕ) (T : Float) (p : ℕ) (m0 m1 m2 m3 : Float) → toldDensityMerger (densityMerger M T p m0 m1 m2 m3)
-    ≡ row 1 (ltb 28 p) (row 2 (ltb 29 M) (row 3 (isNan T)
-    (cond (ltb (firstInvalid m0 m1 m2 m3) 4) (Told.refused 9 (firstInvalid m0 m1 m2 m3)) (Told.answer (toldDensityMerge (mergeDensities M T p 0 m0 m1 m2 m3))))))
+count-merger-told : (o : Option Refusal) (m : CountMerge) → toldCountMerger (countMergerOr o m) ≡ rowsOf o (Told.answer (toldCountMerge m))
+count-merger-told none m = refl
+count-merger-told (some r) m = refl
+
+density-merger-told : (o : Option Refusal) (m : DensityMerge) → toldDensityMerger (densityMergerOr o m) ≡ rowsOf o (Told.answer (toldDensityMerge m))
+density-merger-told none m = refl
+density-merger-told (some r) m = refl
+
+-- The count merger: these, and 10.
+pub count-merger-tells : (P : List ℕ) (M : ℕ) (T : Float) (p h n0 n1 n2 n3 : ℕ) → toldCountMerger (countMerger P M T p h n0 n1 n2 n3)
+    ≡ row 1 (ltb 28 p) (row 2 (ltb 29 M) (row 3 (isNan T) (rowsOf (protectedRefusal 29 P) (row 7 (leb (nHash p) h)
+    (row 10 (ltb 4294967295 (n0 + n1 + n2 + n3)) (Told.answer (toldCountMerge (mergeCounts 29 P M T p h n0 n1 n2 n3))))))))
+unfolding countMerger
+count-merger-tells P M T p h n0 n1 n2 n3 =
+    let over = ltb 4294967295 (n0 + n1 + n2 + n3) in
+    let row10 = refusedIf over (Refusal.CountOverflow 0) in
+    let last : Told (Four ℕ) = Told.answer (toldCountMerge (mergeCounts 29 P M T p h n0 n1 n2 n3)) in
+    count-merger-told (orElse (quadRefusal P M T p h) row10) (mergeCounts 29 P M T p h n0 n1 n2 n3)
+    ∙ in-order (quadRefusal P M T p h) row10 last
+    ∙ ap (rowsOf (quadRefusal P M T p h)) (one-row over (Refusal.CountOverflow 0) last)
+    ∙ quad-rows P M T p h _
+
+-- The density merger: these, and 9 with the child's place.
+pub density-merger-tells : (P : List ℕ) (M : ℕ) (T : Float) (p h : ℕ) (m0 m1 m2 m3 : Float) → toldDensityMerger (densityMerger P M T p h m0 m1 m2 m3)
+    ≡ row 1 (ltb 28 p) (row 2 (ltb 29 M) (row 3 (isNan T) (rowsOf (protectedRefusal 29 P) (row 7 (leb (nHash p) h)
+    (cond (ltb (firstInvalid m0 m1 m2 m3) 4) (Told.refused 9 (firstInvalid m0 m1 m2 m3)) (Told.answer (toldDensityMerge (mergeDensities P M T p h m0 m1 m2 m3))))))))
 unfolding densityMerger
-density-merger-tells M T p m0 m1 m2 m3 =
-    of-choice toldDensityMerger (ltb 28 p) _ _
-    ∙ ap (row 1 (ltb 28 p)) (of-choice toldDensityMerger (ltb 29 M) _ _
-    ∙ ap (row 2 (ltb 29 M)) (of-choice toldDensityMerger (isNan T) _ _
-    ∙ ap (row 3 (isNan T)) (of-choice toldDensityMerger (ltb (firstInvalid m0 m1 m2 m3) 4) _ _)))
+density-merger-tells P M T p h m0 m1 m2 m3 =
+    let child = firstInvalid m0 m1 m2 m3 in
+    let row9 = refusedIf (ltb child 4) (Refusal.InvalidDensity child) in
+    let last : Told (Four Float) = Told.answer (toldDensityMerge (mergeDensities P M T p h m0 m1 m2 m3)) in
+    density-merger-told (orElse (quadRefusal P M T p h) row9) (mergeDensities P M T p h m0 m1 m2 m3)
+    ∙ in-order (quadRefusal P M T p h) row9 last
+    ∙ ap (rowsOf (quadRefusal P M T p h)) (one-row (ltb child 4) (Refusal.InvalidDensity child) last)
+    ∙ quad-rows P M T p h _
 
 -- ---- sections 3 and 6
 -- The map check: 1.
@@ -196,27 +228,30 @@ module _ {X : Type 0} (K D M : ℕ) (T : Float) (next : Told X) where
       ∙ one-row (ltb 29 M) _ _
       ∙ ap (row 2 (ltb 29 M)) (one-row (isNan T) _ next))
 
--- Adding counts: 1 to 5, 7 and 8 cell by cell, 10, 11.
-module _ (K D M : ℕ) (T : Float) (m : ℕ) (zs vs hs ns : List ℕ) where
+-- Adding counts: 1 to 3, 15 (note 7: "tried after 3"), 4, 5, 7 and 8 cell by cell, 10, 11.
+module _ (K : ℕ) (P : List ℕ) (D M : ℕ) (T : Float) (m : ℕ) (zs vs hs ns : List ℕ) where
   abbrev pub countsMade : List (Entry ℕ)
-  countsMade = run (acceptCounts M T) (held K m zs vs) (batch D hs ns)
+  countsMade = run (acceptCounts K P M T) (held K m zs vs) (batch D hs ns)
 
-  pub add-counts-tells : toldCounts (addCounts K D M T m zs vs hs ns .0)
+  pub add-counts-tells : toldCounts (addCounts K P D M T m zs vs hs ns .0)
       ≡ row 1 (ltb K D)
       (row 2 (ltb 29 M)
       (row 3 (isNan T)
+      (rowsOf (protectedRefusal K P)
       (row 4 (not (eqb (length zs) (length vs)) || (ltb (length zs) m || not (eqb (length hs) (length ns))))
       (rowAt 5 (faultyEntry (firstFault K D (take m zs)))
       (rowsOf (cellsRefusal never D (mapEnd K D (take m zs)) 0 hs ns)
       (rowsOf (totalRefusal (sumOf (take m vs)) ns)
       (row 11 (ltb (length zs) (m + length hs))
-      (Told.answer (length countsMade, totalOf countsMade)))))))))
+      (Told.answer (length countsMade, totalOf countsMade))))))))))
   unfolding addCounts addCall countsRefusal lengthsRefusal spaceRefusal
   add-counts-tells =
-      counts-told (countCalls K D M T) (countsRefusal K D M T m (length zs) (length vs) (take m zs) (take m vs) hs ns) _ countsMade
+      counts-told (countCalls K P D M T) (countsRefusal K P D M T m (length zs) (length vs) (take m zs) (take m vs) hs ns) _ countsMade
       ∙ in-order (settingsRefusal K D M T) _ _
       ∙ settings-rows K D M T _
       ∙ ap (λ x. row 1 (ltb K D) (row 2 (ltb 29 M) (row 3 (isNan T) x)))
+      (in-order (protectedRefusal K P) _ _
+      ∙ ap (rowsOf (protectedRefusal K P))
       (in-order (lengthsRefusal m (length zs) (length vs) (length hs) (length ns)) _ _
       ∙ one-row (not (eqb (length zs) (length vs)) || (ltb (length zs) m || not (eqb (length hs) (length ns)))) _ _
       ∙ ap (row 4 (not (eqb (length zs) (length vs)) || (ltb (length zs) m || not (eqb (length hs) (length ns)))))
@@ -226,29 +261,32 @@ module _ (K D M : ℕ) (T : Float) (m : ℕ) (zs vs hs ns : List ℕ) where
       (in-order (cellsRefusal never D (mapEnd K D (take m zs)) 0 hs ns) _ _
       ∙ ap (rowsOf (cellsRefusal never D (mapEnd K D (take m zs)) 0 hs ns))
       (in-order (totalRefusal (sumOf (take m vs)) ns) _ _
-      ∙ ap (rowsOf (totalRefusal (sumOf (take m vs)) ns)) (one-row (ltb (length zs) (m + length hs)) _ _)))))
+      ∙ ap (rowsOf (totalRefusal (sumOf (take m vs)) ns)) (one-row (ltb (length zs) (m + length hs)) _ _))))))
 
--- Adding densities: 1 to 6, 7 to 9 cell by cell, 11.
-module _ (D M : ℕ) (T : Float) (m : ℕ) (zs : List ℕ) (vs : List Float) (hs : List ℕ) (xs : List Float) where
+-- Adding densities: 1 to 3, 15, 4 to 6, 7 to 9 cell by cell, 11.
+module _ (P : List ℕ) (D M : ℕ) (T : Float) (m : ℕ) (zs : List ℕ) (vs : List Float) (hs : List ℕ) (xs : List Float) where
   abbrev pub densitiesMade : List (Entry Float)
-  densitiesMade = run (acceptDensities M T) (held 29 m zs vs) (batch D hs xs)
+  densitiesMade = run (acceptDensities P M T) (held 29 m zs vs) (batch D hs xs)
 
-  pub add-densities-tells : toldDensities (addDensities D M T m zs vs hs xs .0)
+  pub add-densities-tells : toldDensities (addDensities P D M T m zs vs hs xs .0)
       ≡ row 1 (ltb 29 D)
       (row 2 (ltb 29 M)
       (row 3 (isNan T)
+      (rowsOf (protectedRefusal 29 P)
       (row 4 (not (eqb (length zs) (length vs)) || (ltb (length zs) m || not (eqb (length hs) (length xs))))
       (rowAt 5 (faultyEntry (firstFault 29 D (take m zs)))
       (rowsOf (densityRefusal 0 (take m vs))
       (rowsOf (cellsRefusal invalidDensity D (mapEnd 29 D (take m zs)) 0 hs xs)
       (row 11 (ltb (length zs) (m + length hs))
-      (Told.answer (length densitiesMade)))))))))
+      (Told.answer (length densitiesMade))))))))))
   unfolding addDensities addCall densitiesRefusal lengthsRefusal spaceRefusal
   add-densities-tells =
-      densities-told (densityCalls D M T) (densitiesRefusal D M T m (length zs) (length vs) (take m zs) (take m vs) hs xs) _ densitiesMade
+      densities-told (densityCalls P D M T) (densitiesRefusal P D M T m (length zs) (length vs) (take m zs) (take m vs) hs xs) _ densitiesMade
       ∙ in-order (settingsRefusal 29 D M T) _ _
       ∙ settings-rows 29 D M T _
       ∙ ap (λ x. row 1 (ltb 29 D) (row 2 (ltb 29 M) (row 3 (isNan T) x)))
+      (in-order (protectedRefusal 29 P) _ _
+      ∙ ap (rowsOf (protectedRefusal 29 P))
       (in-order (lengthsRefusal m (length zs) (length vs) (length hs) (length xs)) _ _
       ∙ one-row (not (eqb (length zs) (length vs)) || (ltb (length zs) m || not (eqb (length hs) (length xs)))) _ _
       ∙ ap (row 4 (not (eqb (length zs) (length vs)) || (ltb (length zs) m || not (eqb (length hs) (length xs)))))
@@ -258,7 +296,7 @@ module _ (D M : ℕ) (T : Float) (m : ℕ) (zs : List ℕ) (vs : List Float) (hs
       (in-order (densityRefusal 0 (take m vs)) _ _
       ∙ ap (rowsOf (densityRefusal 0 (take m vs)))
       (in-order (cellsRefusal invalidDensity D (mapEnd 29 D (take m zs)) 0 hs xs) _ _
-      ∙ ap (rowsOf (cellsRefusal invalidDensity D (mapEnd 29 D (take m zs)) 0 hs xs)) (one-row (ltb (length zs) (m + length hs)) _ _)))))
+      ∙ ap (rowsOf (cellsRefusal invalidDensity D (mapEnd 29 D (take m zs)) 0 hs xs)) (one-row (ltb (length zs) (m + length hs)) _ _))))))
 
 -- ---- section 5: "in each row left map before right"
 -- rows 1 to 3 of a pool or a product
@@ -285,49 +323,53 @@ maps-rows l r next =
 abbrev pub unpaired : {A : Type 0} → Given A → Given A → ℕ → ℕ → Bool
 unpaired l r zs vs = not (eqb (length (l .zuniqs)) (length (l .values))) || (not (eqb (length (r .zuniqs)) (length (r .values))) || not (eqb zs vs))
 
--- Pool: 1 to 5, 10, 11.
-module _ (l r : Given ℕ) (M : ℕ) (T : Float) (zs vs : List ℕ) where
+-- Pool: 1 to 3, 15, 4, 5, 10, 11.
+module _ (P : List ℕ) (l r : Given ℕ) (M : ℕ) (T : Float) (zs vs : List ℕ) where
   abbrev pub pooledMap : List (Entry ℕ)
-  pooledMap = reverse (definedPool (acceptCounts M T) (resultDepth l r) (entries l) (entries r))
+  pooledMap = reverse (definedPool (acceptCounts 29 P M T) (resultDepth l r) (entries l) (entries r))
 
-  pub pool-tells : toldCounts (poolCounts l r M T zs vs .0)
+  pub pool-tells : toldCounts (poolCounts P l r M T zs vs .0)
       ≡ row 1 (ltb 29 (l .depth) || ltb 29 (r .depth))
       (row 2 (ltb 29 M)
       (row 3 (isNan T)
+      (rowsOf (protectedRefusal 29 P)
       (row 4 (unpaired l r (length zs) (length vs))
       (rowAt 5 (faultyEntry (firstFault 29 (l .depth) (l .zuniqs)))
       (rowAt 5 (faultyEntry (firstFault 29 (r .depth) (r .zuniqs)))
       (row 10 (ltb 4294967295 (sumOf (l .values) + sumOf (r .values)))
       (row 11 (ltb (length zs) (length (poolKept l r)))
-      (Told.answer (length pooledMap, totalOf pooledMap)))))))))
+      (Told.answer (length pooledMap, totalOf pooledMap))))))))))
   unfolding poolCounts Combining.poolOver Combining.poolRefusal Combining.poolInputRefusal Combining.pairsRefusal Combining.sumsRefusal Combining.placesRefusal
   pool-tells =
-      let input = Combining.poolInputRefusal l r M T (length zs) (length vs) in
+      let input = Combining.poolInputRefusal P l r M T (length zs) (length vs) in
       let last : Told (ℕ × ℕ) = row 11 (ltb (length zs) (length (poolKept l r))) (Told.answer (length pooledMap, totalOf pooledMap)) in
-      counts-told (countCalls 29 (resultDepth l r) M T) (Combining.poolRefusal l r M T (length zs) (length vs)) _ pooledMap
+      counts-told (countCalls 29 P (resultDepth l r) M T) (Combining.poolRefusal P l r M T (length zs) (length vs)) _ pooledMap
       ∙ in-order input _ _
       ∙ ap (rowsOf input) (one-row (ltb (length zs) (length (poolKept l r))) _ _)
       ∙ in-order (Combining.settingsRefusal (l .depth) (r .depth) M T) _ last
       ∙ combining-rows (l .depth) (r .depth) M T _
       ∙ ap (λ x. row 1 (ltb 29 (l .depth) || ltb 29 (r .depth)) (row 2 (ltb 29 M) (row 3 (isNan T) x)))
+      (in-order (protectedRefusal 29 P) _ last
+      ∙ ap (rowsOf (protectedRefusal 29 P))
       (in-order (refusedIf (unpaired l r (length zs) (length vs)) Refusal.LengthMismatch) _ last
       ∙ one-row (unpaired l r (length zs) (length vs)) _ _
       ∙ ap (row 4 (unpaired l r (length zs) (length vs)))
       (in-order (Combining.mapsRefusal l r) _ last
       ∙ maps-rows l r _
       ∙ ap (λ x. rowAt 5 (faultyEntry (firstFault 29 (l .depth) (l .zuniqs))) (rowAt 5 (faultyEntry (firstFault 29 (r .depth) (r .zuniqs))) x))
-      (one-row (ltb 4294967295 (sumOf (l .values) + sumOf (r .values))) _ last)))
+      (one-row (ltb 4294967295 (sumOf (l .values) + sumOf (r .values))) _ last))))
 
--- Product: 1 to 6, 10, 11.
-module _ (l r : Given Float) (M : ℕ) (T k : Float) (zs : List ℕ) (vs : List Float) where
+-- Product: 1 to 3, 15, 4 to 6, 10, 11.
+module _ (P : List ℕ) (l r : Given Float) (M : ℕ) (T k : Float) (zs : List ℕ) (vs : List Float) where
   abbrev pub productMap : List (Entry Float)
-  productMap = reverse (definedProduct (acceptDensities M T) k (resultDepth l r) (entries l) (entries r))
+  productMap = reverse (definedProduct (acceptDensities P M T) k (resultDepth l r) (entries l) (entries r))
 
-  pub product-tells : toldDensities (productDensities l r M T k zs vs .0)
+  pub product-tells : toldDensities (productDensities P l r M T k zs vs .0)
       ≡ row 1 (ltb 29 (l .depth) || ltb 29 (r .depth))
       (row 2 (ltb 29 M)
       (row 3 (isNan T)
       (row 3 (invalidDensity k)
+      (rowsOf (protectedRefusal 29 P)
       (row 4 (unpaired l r (length zs) (length vs))
       (rowAt 5 (faultyEntry (firstFault 29 (l .depth) (l .zuniqs)))
       (rowAt 5 (faultyEntry (firstFault 29 (r .depth) (r .zuniqs)))
@@ -335,13 +377,13 @@ module _ (l r : Given Float) (M : ℕ) (T k : Float) (zs : List ℕ) (vs : List 
       (rowsOf (densityRefusal 0 (r .values))
       (row 10 (someNotFinite (productKept k l r))
       (row 11 (ltb (length zs) (length (productKept k l r)))
-      (Told.answer (length productMap))))))))))))
+      (Told.answer (length productMap)))))))))))))
   unfolding productDensities Combining.productOver Combining.productRefusal Combining.productInputRefusal Combining.factorRefusal Combining.pairsRefusal Combining.mapDensitiesRefusal Combining.finiteRefusal Combining.placesRefusal
   product-tells =
-      let input = Combining.productInputRefusal l r M T k (length zs) (length vs) in
+      let input = Combining.productInputRefusal P l r M T k (length zs) (length vs) in
       let space : Told ℕ = row 11 (ltb (length zs) (length (productKept k l r))) (Told.answer (length productMap)) in
       let last : Told ℕ = row 10 (someNotFinite (productKept k l r)) space in
-      densities-told (densityCalls (resultDepth l r) M T) (Combining.productRefusal l r M T k (length zs) (length vs)) _ productMap
+      densities-told (densityCalls P (resultDepth l r) M T) (Combining.productRefusal P l r M T k (length zs) (length vs)) _ productMap
       ∙ in-order input _ _
       ∙ ap (rowsOf input)
       (in-order (refusedIf (someNotFinite (productKept k l r)) Refusal.ProductNotFinite) _ _
@@ -353,13 +395,15 @@ module _ (l r : Given Float) (M : ℕ) (T k : Float) (zs : List ℕ) (vs : List 
       (in-order (refusedIf (invalidDensity k) Refusal.InvalidFactor) _ last
       ∙ one-row (invalidDensity k) _ _
       ∙ ap (row 3 (invalidDensity k))
+      (in-order (protectedRefusal 29 P) _ last
+      ∙ ap (rowsOf (protectedRefusal 29 P))
       (in-order (refusedIf (unpaired l r (length zs) (length vs)) Refusal.LengthMismatch) _ last
       ∙ one-row (unpaired l r (length zs) (length vs)) _ _
       ∙ ap (row 4 (unpaired l r (length zs) (length vs)))
       (in-order (Combining.mapsRefusal l r) _ last
       ∙ maps-rows l r _
       ∙ ap (λ x. rowAt 5 (faultyEntry (firstFault 29 (l .depth) (l .zuniqs))) (rowAt 5 (faultyEntry (firstFault 29 (r .depth) (r .zuniqs))) x))
-      (in-order (densityRefusal 0 (l .values)) (densityRefusal 0 (r .values)) last))))
+      (in-order (densityRefusal 0 (l .values)) (densityRefusal 0 (r .values)) last)))))
 
 -- ---- section 7
 -- Reading rows: 4, 11.

@@ -42,19 +42,19 @@ use Rattle.combine.proofs.Given.{entries-laid}
 use Rattle.combine.proofs.PoolCall.{pool-call-swapped}
 use Rattle.claims.specs.Demand3.{lastReport, heldAfter, calls, AddCalls, first, done, due, joinedList, mapOf, Claim, given, poolOf, PoolClaim}
 
-pub mergers-sum : (M : ℕ) (T : Float) → Sums (acceptCounts M T) (λ n. n)
-mergers-sum M T d h k0 k1 k2 k3 x q = accepted-count-is-sum M T d h k0 k1 k2 k3 x q
+pub mergers-sum : (K : ℕ) (P : List ℕ) (M : ℕ) (T : Float) → Sums (acceptCounts K P M T) (λ n. n)
+mergers-sum K P M T d h k0 k1 k2 k3 x q = accepted-count-is-sum K P M T d h k0 k1 k2 k3 x q
 
 -- ---- the calls as their contract has them
 abbrev told : Buffers ℕ × List (Answer Refusal Report) → Buffers ℕ × List CountsAdded
 told t = (t .0, map countsAdded (t .1))
 
 -- A list of calls of `addCounts`, each handed what the one before left and answered, is one of `addCall`.
-module _ (K D M : ℕ) (T : Float) where
+module _ (K : ℕ) (P : List ℕ) (D M : ℕ) (T : Float) where
   abbrev counting : Calls ℕ Refusal Report
-  counting = countCalls K D M T
+  counting = countCalls K P D M T
 
-  calls-are : (b : Buffers ℕ) (cs : List (Batch ℕ)) → calls K D M T b cs ≡ told (addCalls counting b cs)
+  calls-are : (b : Buffers ℕ) (cs : List (Batch ℕ)) → calls K P D M T b cs ≡ told (addCalls counting b cs)
   unfolding calls addCalls addCounts addCall
   calls-are b [] = refl
   calls-are b (c ∷ cs) =
@@ -67,10 +67,10 @@ module _ (K D M : ℕ) (T : Float) where
       first-call : Option Refusal → Buffers ℕ × List CountsAdded
       first-call o =
           let r = answered counting o b made in
-          let more = calls K D M T (record { number = heldAfter (b .number) (countsAdded (r .1)); zuniqs = r .0 .zuniqs; values = r .0 .values }) cs in
+          let more = calls K P D M T (record { number = heldAfter (b .number) (countsAdded (r .1)); zuniqs = r .0 .zuniqs; values = r .0 .values }) cs in
           (more .0, countsAdded (r .1) ∷ more .1)
 
-      go : (o : Option Refusal) → ((d : Buffers ℕ) → calls K D M T d cs ≡ told (addCalls counting d cs)) → first-call o ≡ (let r = answered counting o b made in let t = addCalls counting (r .0) cs in told (t .0, r .1 ∷ t .1))
+      go : (o : Option Refusal) → ((d : Buffers ℕ) → calls K P D M T d cs ≡ told (addCalls counting d cs)) → first-call o ≡ (let r = answered counting o b made in let t = addCalls counting (r .0) cs in told (t .0, r .1 ∷ t .1))
       go none more = rw (more (holding counting b made)) refl
       go (some r) more = rw (more b) refl
 
@@ -103,30 +103,30 @@ covers-iff-listed D h (e ∷ l) low =
 -- ---- the claim
 module _ (K : ℕ) (a : AddCalls) where
   abbrev g : Calls ℕ Refusal Report
-  g = countCalls K (a .D) (a .M) (a .T)
+  g = countCalls K (a .parents) (a .D) (a .M) (a .T)
 
   abbrev rising : Rises (a .D) 0 (nHash (a .D)) (joinedList K a)
-  rising = joined-batches-rise g (count-calls-sound K (a .D) (a .M) (a .T)) (first a) (a .batches)
+  rising = joined-batches-rise g (count-calls-sound K (a .parents) (a .D) (a .M) (a .T)) (first a) (a .batches)
 
   abbrev in-sky : Rises K 0 (nHash K) (mapOf K a)
-  in-sky = joined-map-rises g (count-calls-sound K (a .D) (a .M) (a .T)) (first a) (a .batches)
+  in-sky = joined-map-rises g (count-calls-sound K (a .parents) (a .D) (a .M) (a .T)) (first a) (a .batches)
 
   pub as-due : done K a ≡ (left g (first a) (due K a .0), due K a .1)
   as-due =
-      let joined = calls-do-as-joined g (count-calls-sound K (a .D) (a .M) (a .T)) (first a) (a .batches) in
-      calls-are K (a .D) (a .M) (a .T) (first a) (a .batches) ∙ ap told joined
+      let joined = calls-do-as-joined g (count-calls-sound K (a .parents) (a .D) (a .M) (a .T)) (first a) (a .batches) in
+      calls-are K (a .parents) (a .D) (a .M) (a .T) (first a) (a .batches) ∙ ap told joined
 
   report-is : lastReport 0 0 (done K a .1) ≡ (length (mapOf K a), totalOf (mapOf K a))
   report-is =
       let m = mapOf K a in
-      let start : joinedMap g none ≡ [] = ap reverse (defined-map-nil (acceptCounts (a .M) (a .T)) (a .D)) in
+      let start : joinedMap g none ≡ [] = ap reverse (defined-map-nil (acceptCounts K (a .parents) (a .M) (a .T)) (a .D)) in
       let due-is = report-is-due g (length (a .zuniqs)) (length (a .counts)) none (a .batches) in
       let last : lastReport 0 0 (due K a .1) ≡ (length (reverse m), totalOf (reverse m)) = rw start at due-is in
       ap (λ (t : Buffers ℕ × List CountsAdded). lastReport 0 0 (t .1)) as-due ∙ last ∙ (λ i. (length-reverse m i, total-reverse (λ n. n) m i))
 
   pub add-calls-claim : Claim K a
   add-calls-claim =
-      let accept = acceptCounts (a .M) (a .T) in
+      let accept = acceptCounts K (a .parents) (a .M) (a .T) in
       record {
         as-due = as-due;
         valid = rising-is-valid K (a .D) (mapOf K a) (λ e m. rises-has (a .D) 0 (nHash (a .D)) (mapOf K a) e (defined-map-rises accept (a .D) (joinedList K a)) m .0) in-sky;
@@ -135,7 +135,7 @@ module _ (K : ℕ) (a : AddCalls) where
             let c = defined-map-covers accept (a .D) (joinedList K a) rising (a .D) h (omega arith) in
             let k = covers-iff-listed (a .D) h (joinedList K a) (joined-batches-depth g (length (a .zuniqs)) (length (a .counts)) (a .batches)) in
             (λ m. k .0 (c .0 m), λ m. c .1 (k .1 m));
-        sums = defined-map-counts accept (a .D) (joinedList K a) rising (λ n. n) (mergers-sum (a .M) (a .T));
+        sums = defined-map-counts accept (a .D) (joinedList K a) rising (λ n. n) (mergers-sum K (a .parents) (a .M) (a .T));
         settled = no-acceptable-quad-left accept (a .D) (joinedList K a) rising;
         reported = report-is;
       }
@@ -145,19 +145,19 @@ module _ (K : ℕ) (a : AddCalls) where
   no-blank-siblings d h c0 c1 c2 c3 = ⊎-elim (λ l. absurd (merged l)) (λ l. l) (le-or-lt (a .M) d)
     where
       merged : a .M ≤ d → ⊥
-      merged l = Option·some-ne-none 0 (sym (accept-counts-iff-merged (a .M) (a .T) d h 0 0 0 0 0 .1 (blank-merges (a .M) (a .T) d h l)) ∙ add-calls-claim .settled d h 0 0 0 0 c0 c1 c2 c3)
+      merged l = Option·some-ne-none 0 (sym (accept-counts-iff-merged K (a .parents) (a .M) (a .T) d h 0 0 0 0 0 .1 (blank-merges K (a .parents) (a .M) (a .T) d h l)) ∙ add-calls-claim .settled d h 0 0 0 0 c0 c1 c2 c3)
 
   -- At depth 0 the map is the accepted cells, joined.
   pub base-cells-joined : a .D ≡ 0 → mapOf K a ≡ joinedList K a
   base-cells-joined q =
-      base-cells-map (acceptCounts (a .M) (a .T)) (a .D) q (joinedList K a) (λ e m. joined-batches-depth g (length (a .zuniqs)) (length (a .counts)) (a .batches) e m ∙ q) rising
+      base-cells-map (acceptCounts K (a .parents) (a .M) (a .T)) (a .D) q (joinedList K a) (λ e m. joined-batches-depth g (length (a .zuniqs)) (length (a .counts)) (a .batches) e m ∙ q) rising
 
 -- ---- the map that goes into a pool
 module _ (a : AddCalls) where
   given-stands : (given a .zuniqs ≡ map (zuniqOf 29) (mapOf 29 a)) × (given a .values ≡ map valueOf (mapOf 29 a))
   unfolding laid
   given-stands =
-      let w = joined-map-stands (g 29 a) (count-calls-sound 29 (a .D) (a .M) (a .T)) (first a) (a .batches) in
+      let w = joined-map-stands (g 29 a) (count-calls-sound 29 (a .parents) (a .D) (a .M) (a .T)) (first a) (a .batches) in
       let m = reverse-reverse (mapOf 29 a) in (
         ap (λ (t : Buffers ℕ × List CountsAdded). take (t .0 .number) (t .0 .zuniqs)) (as-due 29 a) ∙ w .0 ∙ ap (map (zuniqOf 29)) m,
         ap (λ (t : Buffers ℕ × List CountsAdded). take (t .0 .number) (t .0 .values)) (as-due 29 a) ∙ w .1 ∙ ap (map valueOf) m,
@@ -171,32 +171,32 @@ module _ (a : AddCalls) where
   given-passes = rw (given-stands .0, no-fault-iff-valid 29 (a .D) (map (zuniqOf 29) (mapOf 29 a)) .1 (add-calls-claim 29 a .valid)) refl
 
 -- ---- pooling two of them
-module _ (a b : AddCalls) (M : ℕ) (T : Float) (zs vs : List ℕ) where
+module _ (P : List ℕ) (a b : AddCalls) (M : ℕ) (T : Float) (zs vs : List ℕ) where
   maps-pass : (c d : AddCalls) → mapsRefusal (given c) (given d) ≡ none
   unfolding mapsRefusal
   maps-pass c d = rw (given-passes c, given-passes d) refl
 
-  pool-is-due : poolRefusal (given a) (given b) M T (length zs) (length vs) ≡ none → let p = poolOf a b M T in
-      poolCounts (given a) (given b) M T zs vs ≡ (CountsAdded.Added (length p) (totalOf (mapOf 29 a) + totalOf (mapOf 29 b)), zuniqBuffer 29 (length zs) p, valueBuffer 0 (length vs) p)
+  pool-is-due : poolRefusal P (given a) (given b) M T (length zs) (length vs) ≡ none → let p = poolOf P a b M T in
+      poolCounts P (given a) (given b) M T zs vs ≡ (CountsAdded.Added (length p) (totalOf (mapOf 29 a) + totalOf (mapOf 29 b)), zuniqBuffer 29 (length zs) p, valueBuffer 0 (length vs) p)
   unfolding poolCounts poolOver
   pool-is-due e =
       let D = max (a .D) (b .D) in
-      let p = poolOf a b M T in
+      let p = poolOf P a b M T in
       let t : totalOf p ≡ totalOf (mapOf 29 a) + totalOf (mapOf 29 b) =
-      total-reverse (λ n. n) (definedPool (acceptCounts M T) D (mapOf 29 a) (mapOf 29 b)) ∙ pool-total D (mapOf 29 a) (mapOf 29 b) (deeper a (omega arith)) (deeper b (omega arith)) (acceptCounts M T) (mergers-sum M T) in
+      total-reverse (λ n. n) (definedPool (acceptCounts 29 P M T) D (mapOf 29 a) (mapOf 29 b)) ∙ pool-total D (mapOf 29 a) (mapOf 29 b) (deeper a (omega arith)) (deeper b (omega arith)) (acceptCounts 29 P M T) (mergers-sum 29 P M T) in
       rw (e, given-entries a, given-entries b, t) refl
     where
       deeper : (c : AddCalls) → c .D ≤ max (a .D) (b .D) → Rises (max (a .D) (b .D)) 0 (nHash (max (a .D) (b .D))) (mapOf 29 c)
-      deeper c u = rises-deeper-iff (c .D) (max (a .D) (b .D)) u (mapOf 29 c) .0 (defined-map-rises (acceptCounts (c .M) (c .T)) (c .D) (joinedList 29 c)) .1
+      deeper c u = rises-deeper-iff (c .D) (max (a .D) (b .D)) u (mapOf 29 c) .0 (defined-map-rises (acceptCounts 29 (c .parents) (c .M) (c .T)) (c .D) (joinedList 29 c)) .1
 
-  pool-refused : (x : Refusal) → poolRefusal (given a) (given b) M T (length zs) (length vs) ≡ some x → poolCounts (given a) (given b) M T zs vs ≡ (CountsAdded.Refused x, zs, vs)
+  pool-refused : (x : Refusal) → poolRefusal P (given a) (given b) M T (length zs) (length vs) ≡ some x → poolCounts P (given a) (given b) M T zs vs ≡ (CountsAdded.Refused x, zs, vs)
   unfolding poolCounts poolOver
   pool-refused x e = rw e refl
 
-  pub pool-claim : PoolClaim a b M T zs vs
+  pub pool-claim : PoolClaim P a b M T zs vs
   pool-claim = record {
     maps = maps-pass a b;
     pooled = pool-is-due;
     refused = pool-refused;
-    swapped = pool-call-swapped (given a) (given b) M T zs vs (maps-pass a b) (maps-pass b a);
+    swapped = pool-call-swapped P (given a) (given b) M T zs vs (maps-pass a b) (maps-pass b a);
   }

@@ -1,7 +1,7 @@
 -- What the requests of document 02 left as it was: laws against the former definitions (specs/Former). Assumes nothing.
 use mathlib.Core.Path.{_≡_, refl, ap}
 use mathlib.Core.Bool.{true}
-use mathlib.Core.List.{List}
+use mathlib.Core.List.{List, []}
 use mathlib.Core.Option.{Option, none}
 use Prim.Native.Nat.{ℕ, _≤_, _<_}
 use native.Mathlib.Omega.{arith}
@@ -32,15 +32,15 @@ module _ {A X : Type 0} (g : Calls A Refusal X) (b : Buffers A) (c : Batch A) wh
   unfolding addCall
   depth-0-was-refused q = rw q refl
 
--- ---- note 4
+-- ---- note 4, where nothing is protected (note 7)
 module _ (M : ℕ) (T : Float) (t : lt 0·0 T ≡ true) where
   -- Wherever T is above 0 every call that adds counts answers and leaves what it did before blank sky was merged at any T,
-  pub adding-above-0-as-before : (K D : ℕ) (b : Buffers ℕ) (c : Batch ℕ) → addCall (countCalls K D M T) b c ≡ addCall (withMerger (acceptByChi M T) (countCalls K D M T)) b c
-  adding-above-0-as-before K D b c = ap (λ (accept : ℕ → ℕ → ℕ → ℕ → ℕ → ℕ → Option ℕ). addCall (withMerger accept (countCalls K D M T)) b c) (accepts-as-before M T t)
+  pub adding-above-0-as-before : (K D : ℕ) (b : Buffers ℕ) (c : Batch ℕ) → addCall (countCalls K [] D M T) b c ≡ addCall (withMerger (acceptByChi M T) (countCalls K [] D M T)) b c
+  adding-above-0-as-before K D b c = ap (λ (accept : ℕ → ℕ → ℕ → ℕ → ℕ → ℕ → Option ℕ). addCall (withMerger accept (countCalls K [] D M T)) b c) (accepts-as-before K M T t)
 
   -- every defined map is as it was, and so is every defined pool.
-  pub map-above-0-as-before : (D : ℕ) (l : List (Entry ℕ)) → definedMap (acceptCounts M T) D l ≡ definedMap (acceptByChi M T) D l
-  map-above-0-as-before D l = ap (λ (accept : ℕ → ℕ → ℕ → ℕ → ℕ → ℕ → Option ℕ). definedMap accept D l) (accepts-as-before M T t)
+  pub map-above-0-as-before : (D : ℕ) (l : List (Entry ℕ)) → definedMap (acceptCounts 29 [] M T) D l ≡ definedMap (acceptByChi M T) D l
+  map-above-0-as-before D l = ap (λ (accept : ℕ → ℕ → ℕ → ℕ → ℕ → ℕ → Option ℕ). definedMap accept D l) (accepts-as-before 29 M T t)
 
-  pub pool-above-0-as-before : (D : ℕ) (l r : List (Entry ℕ)) → definedPool (acceptCounts M T) D l r ≡ definedPool (acceptByChi M T) D l r
-  pool-above-0-as-before D l r = ap (λ (accept : ℕ → ℕ → ℕ → ℕ → ℕ → ℕ → Option ℕ). definedPool accept D l r) (accepts-as-before M T t)
+  pub pool-above-0-as-before : (D : ℕ) (l r : List (Entry ℕ)) → definedPool (acceptCounts 29 [] M T) D l r ≡ definedPool (acceptByChi M T) D l r
+  pool-above-0-as-before D l r = ap (λ (accept : ℕ → ℕ → ℕ → ℕ → ℕ → ℕ → Option ℕ). definedPool accept D l r) (accepts-as-before 29 M T t)

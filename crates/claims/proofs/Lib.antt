@@ -1,3 +1,5 @@
 pub mod Demand3
 pub mod Answers
 pub mod Former
+pub mod Unlisted
+pub mod Protected

@@ -16,14 +16,18 @@ use Rattle.refusal.specs.declared.Refusal.{Refusal}
 use Rattle.zuniq.specs.Codec.{zuniq, encode, hashAt, isZuniqAt, cellUpTo, decode, overlapOf, overlapTest}
 use Rattle.zuniq.specs.declared.Encoded.{Encoded}
 use Rattle.zuniq.specs.declared.Decoded.{Decoded}
+use Rattle.protection.specs.Protected.{isListed, isProtected, refusalFrom, protectedRefusal}
 use Rattle.merger.specs.Floats.{0·0, 1·0, invalidDensity}
-use Rattle.merger.specs.Merge.{chiOfCounts, mergeByChi, mergeCounts, mergedCount, acceptCounts, countMerger}
+use Rattle.merger.specs.Merge.{chiOfCounts, mergeByChi, mergeCounts, mergedCount, acceptCounts, quadRefusal, countMerger}
 use Rattle.merger.specs.declared.CountMerge.{CountMerge}
 use Rattle.merger.specs.declared.CountMerger.{CountMerger}
 use Rattle.mom.specs.Map.{isYes, overlaps, faultAfter, faultOf, faultAt, atOr, faultFrom, firstFault}
 use Rattle.build.specs.Map.{Entry, entry, joined, listed, whole, tops, definedMap}
 use Rattle.build.specs.Buffers.{batch, laid, filled, readOnto, held}
-use Rattle.build.specs.Add.{lengthsRefusal, mapRefusal, spaceRefusal}
+use Rattle.build.specs.Add.{settingsRefusal, lengthsRefusal, mapRefusal, cellsRefusal, mapEnd, sumOf, totalRefusal, sumRefusal, spaceRefusal}
+use Rattle.build.specs.Calls.{addCall}
+use Rattle.build.specs.Counts.{countsRefusal, addCounts}
+use Rattle.build.specs.declared.counts.CountsAdded.{CountsAdded}
 use Rattle.build.specs.Densities.{densityRefusal}
 use Rattle.combine.specs.Overlay.{someEntry, fits, part, valueIn, overlayIn, overlay}
 use Rattle.combine.specs.Rules.{kept, combined, splitCount, definedPool}
@@ -115,17 +119,17 @@ mergedTo n (CountMerger.Refused r) = false
 
 -- ---- section 2: "M=0 from here on unless given"; the parent depth is 1
 pub section2 : List Bool
-unfolding keptWith mergedTo 3·0 3·5 5·0 6·0 countMerger mergeCounts mergeByChi chiOfCounts Ieee.add Ieee.sub Ieee.mul Ieee.div Ieee.ofInt Ieee.lt Ieee.eq isNan
+unfolding isListed isProtected refusalFrom protectedRefusal quadRefusal nHash keptWith mergedTo 3·0 3·5 5·0 6·0 countMerger mergeCounts mergeByChi chiOfCounts Ieee.add Ieee.sub Ieee.mul Ieee.div Ieee.ofInt Ieee.lt Ieee.eq isNan
 section2 =
     -- "1,2,4,4: chi 3, kept at T=3, merged to 11 at 3.5"
     Ieee.eq (chiOfCounts 1 2 4 4) 3·0
-    ∷ keptWith 3·0 (countMerger 0 3·0 1 1 2 4 4)
-    ∷ mergedTo 11 (countMerger 0 3·5 1 1 2 4 4)
+    ∷ keptWith 3·0 (countMerger [] 0 3·0 1 0 1 2 4 4)
+    ∷ mergedTo 11 (countMerger [] 0 3·5 1 0 1 2 4 4)
     -- "0,0,0,5: kept at T=5, 5 at T=6"
-    ∷ keptWith 5·0 (countMerger 0 5·0 1 0 0 0 5)
-    ∷ mergedTo 5 (countMerger 0 6·0 1 0 0 0 5)
+    ∷ keptWith 5·0 (countMerger [] 0 5·0 1 0 0 0 0 5)
+    ∷ mergedTo 5 (countMerger [] 0 6·0 1 0 0 0 0 5)
     -- "4,4,4,4 kept at T=0"
-    ∷ keptWith 0·0 (countMerger 0 0·0 1 4 4 4 4)
+    ∷ keptWith 0·0 (countMerger [] 0 0·0 1 0 4 4 4 4)
     ∷ []
 
 -- ---- what a row of section 4 says
@@ -149,16 +153,16 @@ times (suc n) a = a ∷ times n a
 
 -- ---- section 4
 pub section4 : List Bool
-unfolding isMap from times 3·5 joined listed whole tops definedMap batch acceptCounts mergedCount mergeCounts mergeByChi chiOfCounts Ieee.add Ieee.sub Ieee.mul Ieee.div Ieee.ofInt Ieee.lt
+unfolding isListed isProtected isMap from times 3·5 joined listed whole tops definedMap batch acceptCounts mergedCount mergeCounts mergeByChi chiOfCounts Ieee.add Ieee.sub Ieee.mul Ieee.div Ieee.ofInt Ieee.lt
 section4 =
     -- "D=2, cells 0 to 15 of count 1, T=3.5: (0,0) 16"
-    isMap (definedMap (acceptCounts 0 3·5) 2 (batch 2 (from 16 0) (times 16 1))) (0 ∷ 0 ∷ 16 ∷ [])
+    isMap (definedMap (acceptCounts 29 [] 0 3·5) 2 (batch 2 (from 16 0) (times 16 1))) (0 ∷ 0 ∷ 16 ∷ [])
     -- "with M=1 four depth-1 cells of 4"
-    ∷ isMap (definedMap (acceptCounts 1 3·5) 2 (batch 2 (from 16 0) (times 16 1))) (1 ∷ 0 ∷ 4 ∷ 1 ∷ 1 ∷ 4 ∷ 1 ∷ 2 ∷ 4 ∷ 1 ∷ 3 ∷ 4 ∷ [])
+    ∷ isMap (definedMap (acceptCounts 29 [] 1 3·5) 2 (batch 2 (from 16 0) (times 16 1))) (1 ∷ 0 ∷ 4 ∷ 1 ∷ 1 ∷ 4 ∷ 1 ∷ 2 ∷ 4 ∷ 1 ∷ 3 ∷ 4 ∷ [])
     -- "D=1, cells 1,2,3,4 stay four"
-    ∷ isMap (definedMap (acceptCounts 0 3·5) 1 (batch 1 (from 4 1) (times 4 1))) (1 ∷ 1 ∷ 1 ∷ 1 ∷ 2 ∷ 1 ∷ 1 ∷ 3 ∷ 1 ∷ 1 ∷ 4 ∷ 1 ∷ [])
+    ∷ isMap (definedMap (acceptCounts 29 [] 0 3·5) 1 (batch 1 (from 4 1) (times 4 1))) (1 ∷ 1 ∷ 1 ∷ 1 ∷ 2 ∷ 1 ∷ 1 ∷ 3 ∷ 1 ∷ 1 ∷ 4 ∷ 1 ∷ [])
     -- "Empty list, empty map"
-    ∷ isMap (definedMap (acceptCounts 0 3·5) 2 []) []
+    ∷ isMap (definedMap (acceptCounts 29 [] 0 3·5) 2 []) []
     ∷ []
 
 2·0 : Float
@@ -166,20 +170,20 @@ section4 =
 
 -- ---- section 5
 pub section5 : List Bool
-unfolding isMap 2·0 3·5 joined listed whole tops definedMap someEntry fits part valueIn overlayIn overlay kept combined splitCount liesIn overlap acceptCounts mergedCount mergeCounts mergeByChi chiOfCounts Ieee.add Ieee.sub Ieee.mul Ieee.div Ieee.ofInt Ieee.lt
+unfolding isListed isProtected isMap 2·0 3·5 joined listed whole tops definedMap someEntry fits part valueIn overlayIn overlay kept combined splitCount liesIn overlap acceptCounts mergedCount mergeCounts mergeByChi chiOfCounts Ieee.add Ieee.sub Ieee.mul Ieee.div Ieee.ofInt Ieee.lt
 section5 =
     -- "Pool of (0,0) 10 and (1,1) 3 at T=2: 3, 6, 2, 2"
-    isMap (definedPool (acceptCounts 0 2·0) 1 (entry 0 0 10 ∷ []) (entry 1 1 3 ∷ [])) (1 ∷ 0 ∷ 3 ∷ 1 ∷ 1 ∷ 6 ∷ 1 ∷ 2 ∷ 2 ∷ 1 ∷ 3 ∷ 2 ∷ [])
+    isMap (definedPool (acceptCounts 29 [] 0 2·0) 1 (entry 0 0 10 ∷ []) (entry 1 1 3 ∷ [])) (1 ∷ 0 ∷ 3 ∷ 1 ∷ 1 ∷ 6 ∷ 1 ∷ 2 ∷ 2 ∷ 1 ∷ 3 ∷ 2 ∷ [])
     -- "at T=3.5 (0,0) 13"
-    ∷ isMap (definedPool (acceptCounts 0 3·5) 1 (entry 0 0 10 ∷ []) (entry 1 1 3 ∷ [])) (0 ∷ 0 ∷ 13 ∷ [])
+    ∷ isMap (definedPool (acceptCounts 29 [] 0 3·5) 1 (entry 0 0 10 ∷ []) (entry 1 1 3 ∷ [])) (0 ∷ 0 ∷ 13 ∷ [])
     ∷ []
 
 -- ---- note 1 of 02
 pub note1 : List Bool
-unfolding isMap from times joined listed whole tops definedMap batch acceptCounts mergedCount mergeCounts mergeByChi chiOfCounts Ieee.add Ieee.sub Ieee.mul Ieee.div Ieee.ofInt Ieee.lt
+unfolding isListed isProtected isMap from times joined listed whole tops definedMap batch acceptCounts mergedCount mergeCounts mergeByChi chiOfCounts Ieee.add Ieee.sub Ieee.mul Ieee.div Ieee.ofInt Ieee.lt
 note1 =
     -- "each cell stays as it is, since there is no parent": D=0, the twelve cells of count 1, T infinite
-    isMap (definedMap (acceptCounts 0 (inf false)) 0 (batch 0 (from 12 0) (times 12 1)))
+    isMap (definedMap (acceptCounts 29 [] 0 (inf false)) 0 (batch 0 (from 12 0) (times 12 1)))
     (0 ∷ 0 ∷ 1 ∷ 0 ∷ 1 ∷ 1 ∷ 0 ∷ 2 ∷ 1 ∷ 0 ∷ 3 ∷ 1 ∷ 0 ∷ 4 ∷ 1 ∷ 0 ∷ 5 ∷ 1 ∷ 0 ∷ 6 ∷ 1 ∷ 0 ∷ 7 ∷ 1 ∷ 0 ∷ 8 ∷ 1 ∷ 0 ∷ 9 ∷ 1 ∷ 0 ∷ 10 ∷ 1 ∷ 0 ∷ 11 ∷ 1 ∷ [])
     ∷ []
 
@@ -287,25 +291,25 @@ refusesFour number (CountMerger.Refused r) = eqb (numberOf r) number && eqb (pla
 
 -- ---- note 4 of 02: blank sky; the parent depth is 1, and M = 0 unless given
 pub note4 : List Bool
-unfolding keptWith mergedTo refusesFour −1·0 isMap from times joined listed whole tops definedMap batch someEntry fits part valueIn overlayIn overlay kept combined splitCount liesIn overlap acceptCounts mergedCount countMerger mergeCounts mergeByChi chiOfCounts Ieee.add Ieee.sub Ieee.mul Ieee.div Ieee.ofInt Ieee.lt Ieee.eq isNan
+unfolding isListed isProtected refusalFrom protectedRefusal quadRefusal nHash keptWith mergedTo refusesFour −1·0 isMap from times joined listed whole tops definedMap batch someEntry fits part valueIn overlayIn overlay kept combined splitCount liesIn overlap acceptCounts mergedCount countMerger mergeCounts mergeByChi chiOfCounts Ieee.add Ieee.sub Ieee.mul Ieee.div Ieee.ofInt Ieee.lt Ieee.eq isNan
 note4 =
     -- "Four siblings of count 0 now merge at any T": 0, −1, −∞
-    mergedTo 0 (countMerger 0 0·0 1 0 0 0 0)
-    ∷ mergedTo 0 (countMerger 0 −1·0 1 0 0 0 0)
-    ∷ mergedTo 0 (countMerger 0 (inf true) 1 0 0 0 0)
+    mergedTo 0 (countMerger [] 0 0·0 1 0 0 0 0 0)
+    ∷ mergedTo 0 (countMerger [] 0 −1·0 1 0 0 0 0 0)
+    ∷ mergedTo 0 (countMerger [] 0 (inf true) 1 0 0 0 0 0)
     -- "where the parent depth is at least M": at M they merge, below it they are kept, with chi 0
-    ∷ mergedTo 0 (countMerger 1 0·0 1 0 0 0 0)
-    ∷ keptWith 0·0 (countMerger 2 0·0 1 0 0 0 0)
-    ∷ keptWith 0·0 (countMerger 2 (inf false) 1 0 0 0 0)
+    ∷ mergedTo 0 (countMerger [] 1 0·0 1 0 0 0 0 0)
+    ∷ keptWith 0·0 (countMerger [] 2 0·0 1 0 0 0 0 0)
+    ∷ keptWith 0·0 (countMerger [] 2 (inf false) 1 0 0 0 0 0)
     -- nothing else changes: 4,4,4,4 and three blanks with a 1 are kept at T = 0, and a NaN is refused
-    ∷ keptWith 0·0 (countMerger 0 0·0 1 4 4 4 4)
-    ∷ keptWith 1·0 (countMerger 0 0·0 1 0 0 0 1)
-    ∷ refusesFour 3 (countMerger 0 nan 1 0 0 0 0)
+    ∷ keptWith 0·0 (countMerger [] 0 0·0 1 0 4 4 4 4)
+    ∷ keptWith 1·0 (countMerger [] 0 0·0 1 0 0 0 0 1)
+    ∷ refusesFour 3 (countMerger [] 0 nan 1 0 0 0 0 0)
     -- "building and pooling take it over": D = 2, sixteen blank cells at T = 0 are (0,0) 0, and with M = 1 four of depth 1
-    ∷ isMap (definedMap (acceptCounts 0 0·0) 2 (batch 2 (from 16 0) (times 16 0))) (0 ∷ 0 ∷ 0 ∷ [])
-    ∷ isMap (definedMap (acceptCounts 1 0·0) 2 (batch 2 (from 16 0) (times 16 0))) (1 ∷ 0 ∷ 0 ∷ 1 ∷ 1 ∷ 0 ∷ 1 ∷ 2 ∷ 0 ∷ 1 ∷ 3 ∷ 0 ∷ [])
+    ∷ isMap (definedMap (acceptCounts 29 [] 0 0·0) 2 (batch 2 (from 16 0) (times 16 0))) (0 ∷ 0 ∷ 0 ∷ [])
+    ∷ isMap (definedMap (acceptCounts 29 [] 1 0·0) 2 (batch 2 (from 16 0) (times 16 0))) (1 ∷ 0 ∷ 0 ∷ 1 ∷ 1 ∷ 0 ∷ 1 ∷ 2 ∷ 0 ∷ 1 ∷ 3 ∷ 0 ∷ [])
     -- pool of (0,0) 0 and (1,1) 0 at T = 0: (0,0) 0
-    ∷ isMap (definedPool (acceptCounts 0 0·0) 1 (entry 0 0 0 ∷ []) (entry 1 1 0 ∷ [])) (0 ∷ 0 ∷ 0 ∷ [])
+    ∷ isMap (definedPool (acceptCounts 29 [] 0 0·0) 1 (entry 0 0 0 ∷ []) (entry 1 1 0 ∷ [])) (0 ∷ 0 ∷ 0 ∷ [])
     ∷ []
 
 -- ---- what a row of note 6 says
@@ -404,7 +408,85 @@ note6 =
     ∷ refusesClip 14 0 (clipCall (given 29 (1 ∷ []) (1·0 ∷ [])) (3 ∷ []) (3 ∷ []) [] [])
     ∷ []
 
+-- ---- what a row of note 7 says
+-- the count merger is refused by this number, with this place
+refusesQuad : ℕ → ℕ → CountMerger → Bool
+refusesQuad number place (CountMerger.Answer m) = false
+refusesQuad number place (CountMerger.Refused r) = eqb (numberOf r) number && eqb (placeOf r) place
+
+-- an add call is refused by this number, with this place, and leaves the buffers, which held 9 everywhere, as they were
+refusesAdd : ℕ → ℕ → CountsAdded × List ℕ × List ℕ → Bool
+refusesAdd number place (CountsAdded.Added entries total, zs, vs) = false
+refusesAdd number place (CountsAdded.Refused r, zs, vs) = eqb (numberOf r) number && (eqb (placeOf r) place && (isList zs (times (length zs) 9) && isList vs (times (length vs) 9)))
+
+-- the zuniqs of (0,0), (1,0), (1,1) and (2,0)
+z00 : ℕ
+z00 = 288230376151711744
+
+z10 : ℕ
+z10 = 72057594037927936
+
+z11 : ℕ
+z11 = 216172782113783808
+
+z20 : ℕ
+z20 = 18014398509481984
+
+-- ---- note 7 of 02: protected parents; M = 0 unless given. The merger's parent is (1,0); maps have a largest depth of 2, in which the zuniqs of
+-- (1,0), (1,1), (0,0), (1,2) and (1,3) are 4, 12, 16, 20 and 28
+pub note7 : List Bool
+unfolding z00 z10 z11 z20 refusesQuad refusesAdd keptWith mergedTo isList isMap from times 3·0 3·5 isListed isProtected refusalFrom protectedRefusal quadRefusal nHash zuniq hashAt isZuniqAt cellUpTo decode joined listed whole tops definedMap batch someEntry fits part valueIn overlayIn overlay kept combined splitCount liesIn overlap acceptCounts mergedCount countMerger mergeCounts mergeByChi chiOfCounts addCounts addCall countsRefusal settingsRefusal lengthsRefusal Ieee.add Ieee.sub Ieee.mul Ieee.div Ieee.ofInt Ieee.lt Ieee.eq isNan
+note7 =
+    -- "A quad whose parent is listed is kept", with its chi; first, last and between others
+    keptWith 3·0 (countMerger (z10 ∷ []) 0 3·5 1 0 1 2 4 4)
+    ∷ keptWith 3·0 (countMerger (z20 ∷ z10 ∷ []) 0 3·5 1 0 1 2 4 4)
+    ∷ keptWith 3·0 (countMerger (z10 ∷ z11 ∷ []) 0 3·5 1 0 1 2 4 4)
+    ∷ keptWith 3·0 (countMerger (z20 ∷ z10 ∷ z11 ∷ []) 0 3·5 1 0 1 2 4 4)
+    -- another parent, a child, and a cell of the same hash are not that parent; "An empty list changes nothing"
+    ∷ mergedTo 11 (countMerger (z11 ∷ []) 0 3·5 1 0 1 2 4 4)
+    ∷ mergedTo 11 (countMerger (z20 ∷ []) 0 3·5 1 0 1 2 4 4)
+    ∷ mergedTo 11 (countMerger (z00 ∷ []) 0 3·5 1 0 1 2 4 4)
+    ∷ mergedTo 11 (countMerger [] 0 3·5 1 0 1 2 4 4)
+    -- "though blank quads of Note 4 merge first", from M on; a source among the four is enough
+    ∷ mergedTo 0 (countMerger (z10 ∷ []) 0 0·0 1 0 0 0 0 0)
+    ∷ mergedTo 0 (countMerger (z10 ∷ []) 1 3·5 1 0 0 0 0 0)
+    ∷ keptWith 0·0 (countMerger (z10 ∷ []) 2 3·5 1 0 0 0 0 0)
+    ∷ keptWith 1·0 (countMerger (z10 ∷ []) 0 3·5 1 0 0 0 0 1)
+    -- "A merger call now takes the parent's hash too, 7 if out of range"
+    ∷ mergedTo 11 (countMerger [] 0 3·5 1 47 1 2 4 4)
+    ∷ refusesQuad 7 0 (countMerger [] 0 3·5 1 48 1 2 4 4)
+    -- "15, a listed value is not a valid zuniq or not above the one before, place its index"
+    ∷ refusesQuad 15 0 (countMerger (0 ∷ []) 0 3·5 1 0 1 2 4 4)
+    ∷ refusesQuad 15 1 (countMerger (z10 ∷ 216172782113783810 ∷ z00 ∷ []) 0 3·5 1 0 1 2 4 4)
+    ∷ refusesQuad 15 1 (countMerger (z10 ∷ z10 ∷ []) 0 3·5 1 0 1 2 4 4)
+    ∷ refusesQuad 15 2 (countMerger (z10 ∷ z00 ∷ z11 ∷ []) 0 3·5 1 0 1 2 4 4)
+    -- "tried after 3", and so before 4 and 7
+    ∷ refusesQuad 1 0 (countMerger (0 ∷ []) 30 nan 29 0 1 2 4 4)
+    ∷ refusesQuad 2 0 (countMerger (0 ∷ []) 30 nan 1 48 1 2 4 4)
+    ∷ refusesQuad 3 0 (countMerger (0 ∷ []) 0 nan 1 48 1 2 4 4)
+    ∷ refusesQuad 15 0 (countMerger (0 ∷ []) 0 3·5 1 48 1 2 4 4)
+    ∷ refusesAdd 3 0 (addCounts 29 (0 ∷ []) 1 0 nan 2 (9 ∷ []) (9 ∷ []) (48 ∷ []) [])
+    ∷ refusesAdd 15 0 (addCounts 29 (0 ∷ []) 1 0 3·5 2 (9 ∷ []) (9 ∷ []) (48 ∷ []) [])
+    ∷ refusesAdd 4 0 (addCounts 29 (z10 ∷ []) 1 0 3·5 2 (9 ∷ []) (9 ∷ []) (48 ∷ []) [])
+    -- "narrow building takes narrow zuniqs": (13,0) and (0,0) of u32
+    ∷ refusesAdd 15 0 (addCounts 13 (z10 ∷ []) 1 0 3·5 2 (9 ∷ []) (9 ∷ []) (48 ∷ []) [])
+    ∷ refusesAdd 4 0 (addCounts 13 (1 ∷ 67108864 ∷ []) 1 0 3·5 2 (9 ∷ []) (9 ∷ []) (48 ∷ []) [])
+    -- building: sixteen cells of 1 under (0,0) protected are four of 4; under (1,0) its four stay, and so does what is above
+    ∷ isMap (definedMap (acceptCounts 2 (16 ∷ []) 0 3·5) 2 (batch 2 (from 16 0) (times 16 1))) (1 ∷ 0 ∷ 4 ∷ 1 ∷ 1 ∷ 4 ∷ 1 ∷ 2 ∷ 4 ∷ 1 ∷ 3 ∷ 4 ∷ [])
+    ∷ isMap (definedMap (acceptCounts 2 (4 ∷ []) 0 3·5) 2 (batch 2 (from 16 0) (times 16 1)))
+    (2 ∷ 0 ∷ 1 ∷ 2 ∷ 1 ∷ 1 ∷ 2 ∷ 2 ∷ 1 ∷ 2 ∷ 3 ∷ 1 ∷ 1 ∷ 1 ∷ 4 ∷ 1 ∷ 2 ∷ 4 ∷ 1 ∷ 3 ∷ 4 ∷ [])
+    -- "entries may lie inside one another"
+    ∷ isMap (definedMap (acceptCounts 2 (16 ∷ 28 ∷ []) 0 3·5) 2 (batch 2 (from 16 0) (times 16 1)))
+    (1 ∷ 0 ∷ 4 ∷ 1 ∷ 1 ∷ 4 ∷ 1 ∷ 2 ∷ 4 ∷ 2 ∷ 12 ∷ 1 ∷ 2 ∷ 13 ∷ 1 ∷ 2 ∷ 14 ∷ 1 ∷ 2 ∷ 15 ∷ 1 ∷ [])
+    -- with every parent listed blank sky alone merges: (1,0) blank, (1,1) not
+    ∷ isMap (definedMap (acceptCounts 2 (4 ∷ 12 ∷ 16 ∷ 20 ∷ 28 ∷ []) 0 3·5) 2 (batch 2 (from 8 0) (times 4 0 ++ times 4 1)))
+    (1 ∷ 0 ∷ 0 ∷ 2 ∷ 4 ∷ 1 ∷ 2 ∷ 5 ∷ 1 ∷ 2 ∷ 6 ∷ 1 ∷ 2 ∷ 7 ∷ 1 ∷ [])
+    -- pooling: of (0,0) 10 and (1,1) 3 at T = 3.5 under (0,0) protected: 3, 6, 2, 2, in either order
+    ∷ isMap (definedPool (acceptCounts 2 (16 ∷ []) 0 3·5) 1 (entry 0 0 10 ∷ []) (entry 1 1 3 ∷ [])) (1 ∷ 0 ∷ 3 ∷ 1 ∷ 1 ∷ 6 ∷ 1 ∷ 2 ∷ 2 ∷ 1 ∷ 3 ∷ 2 ∷ [])
+    ∷ isMap (definedPool (acceptCounts 2 (16 ∷ []) 0 3·5) 1 (entry 1 1 3 ∷ []) (entry 0 0 10 ∷ [])) (1 ∷ 0 ∷ 3 ∷ 1 ∷ 1 ∷ 6 ∷ 1 ∷ 2 ∷ 2 ∷ 1 ∷ 3 ∷ 2 ∷ [])
+    ∷ []
+
 -- ---- all of them
-pub starred-cases : every (section1 ++ (section2 ++ (section4 ++ (section5 ++ (note1 ++ (note2 ++ (note3 ++ (note4 ++ note6)))))))) ≡ true
-unfolding every section1 section2 section4 section5 note1 note2 note3 note4 note6
+pub starred-cases : every (section1 ++ (section2 ++ (section4 ++ (section5 ++ (note1 ++ (note2 ++ (note3 ++ (note4 ++ (note6 ++ note7))))))))) ≡ true
+unfolding every section1 section2 section4 section5 note1 note2 note3 note4 note6 note7
 starred-cases = refl

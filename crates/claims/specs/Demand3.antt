@@ -1,4 +1,5 @@
--- Demand 3 of the scope: what is claimed of every list of count add calls with one D, M and T, and of pooling two maps so made.
+-- Demand 3 of the scope: what is claimed of every list of count add calls with one D, M and T, under one list of protected parents (note 7
+-- of 02: "Batches joined are read under one list for all calls"), and of pooling two maps so made.
 -- Said over the definitions that the contracts of the calls cite: `addCounts` is what `add_counts` does, `poolCounts` what `pool` does.
 -- K is the largest depth of the zuniq type: 29 for the calls of `build_counts`, 13 for those of `narrow_counts` (note 2 of 02).
 use mathlib.Core.Path.{_≡_}
@@ -34,18 +35,20 @@ heldAfter m (CountsAdded.Added entries total) = entries
 
 -- the calls, one after the other: "Each later one gets the buffers as the last call left them and m as the last accepted call
 -- answered it"; what they leave, and every answer
-unfoldable pub calls : ℕ → ℕ → ℕ → Float → Buffers ℕ → List (Batch ℕ) → Buffers ℕ × List CountsAdded
-calls K D M T b [] = (b, [])
-calls K D M T b (c ∷ cs) =
-    let r = addCounts K D M T (b .number) (b .zuniqs) (b .values) (c .hashes) (c .values) in
-    let more = calls K D M T (record { number = heldAfter (b .number) (r .0); zuniqs = r .1; values = r .2 }) cs in
+unfoldable pub calls : ℕ → List ℕ → ℕ → ℕ → Float → Buffers ℕ → List (Batch ℕ) → Buffers ℕ × List CountsAdded
+calls K P D M T b [] = (b, [])
+calls K P D M T b (c ∷ cs) =
+    let r = addCounts K P D M T (b .number) (b .zuniqs) (b .values) (c .hashes) (c .values) in
+    let more = calls K P D M T (record { number = heldAfter (b .number) (r .0); zuniqs = r .1; values = r .2 }) cs in
     (more .0, r .0 ∷ more .1)
 
--- "a list of count add calls with one D, M and T": the batch of each, and the first content of the two buffers
+-- "a list of count add calls with one D, M and T", and one list of protected parents: the batch of each, and the first content of the two
+-- buffers
 pub record AddCalls : Type 0 where
   pub D : ℕ
   pub M : ℕ
   pub T : Float
+  pub parents : List ℕ
   pub zuniqs : List ℕ
   pub counts : List ℕ
   pub batches : List (Batch ℕ)
@@ -57,24 +60,24 @@ first a = record { number = 0; zuniqs = a .zuniqs; values = a .counts }
 module _ (K : ℕ) (a : AddCalls) where
   -- what the calls leave in the buffers, with m, and what they answer
   abbrev pub done : Buffers ℕ × List CountsAdded
-  done = calls K (a .D) (a .M) (a .T) (first a) (a .batches)
+  done = calls K (a .parents) (a .D) (a .M) (a .T) (first a) (a .batches)
 
   -- "The joined batches [..] are made from the calls' arguments alone", and with them what each call should answer
   abbrev pub due : Option (List (Entry ℕ)) × List CountsAdded
-  due = let t = joinCalls (countCalls K (a .D) (a .M) (a .T)) (length (a .zuniqs)) (length (a .counts)) none (a .batches) in (t .0, map countsAdded (t .1))
+  due = let t = joinCalls (countCalls K (a .parents) (a .D) (a .M) (a .T)) (length (a .zuniqs)) (length (a .counts)) none (a .batches) in (t .0, map countsAdded (t .1))
 
   abbrev pub joinedList : List (Entry ℕ)
-  joinedList = joinedCells (countCalls K (a .D) (a .M) (a .T)) (due .0)
+  joinedList = joinedCells (countCalls K (a .parents) (a .D) (a .M) (a .T)) (due .0)
 
   -- "the defined map of the joined batches"
   abbrev pub mapOf : List (Entry ℕ)
-  mapOf = definedMap (acceptCounts (a .M) (a .T)) (a .D) joinedList
+  mapOf = definedMap (acceptCounts K (a .parents) (a .M) (a .T)) (a .D) joinedList
 
   pub record Claim : Type 0 where
     -- "A call is refused exactly when, and as, the refusals below say with the defined map of the joined batches as held map"; "After
     -- the list m is the number of entries, and the buffers hold the defined map with 0 in every place after it or, with no call
     -- accepted, their first content": every answer, m, and both buffers whole
-    pub as-due : done ≡ (left (countCalls K (a .D) (a .M) (a .T)) (first a) (due .0), due .1)
+    pub as-due : done ≡ (left (countCalls K (a .parents) (a .D) (a .M) (a .T)) (first a) (due .0), due .1)
     -- the entries are a valid map: they rise and none overlap
     pub valid : ValidMap K (a .D) (map (zuniqOf K) mapOf)
     pub rises : Ascends K mapOf
@@ -84,7 +87,7 @@ module _ (K : ℕ) (a : AddCalls) where
     pub sums : (e : Entry ℕ) → Has mapOf e → e .value ≡ totalUnder (λ n. n) joinedList (e .depth) (e .hash)
     -- "Siblings are the four children of one parent": no four remain that the merger accepts
     pub settled : (d h v0 v1 v2 v3 : ℕ) → Has mapOf (child d h 0 v0) → Has mapOf (child d h 1 v1) → Has mapOf (child d h 2 v2) → Has mapOf (child d h 3 v3)
-        → acceptCounts (a .M) (a .T) d h v0 v1 v2 v3 ≡ none
+        → acceptCounts K (a .parents) (a .M) (a .T) d h v0 v1 v2 v3 ≡ none
     -- what was last reported is so: the number of entries, and the sum over all of them
     pub reported : lastReport 0 0 (done .1) ≡ (length mapOf, totalOf mapOf)
 
@@ -94,17 +97,18 @@ abbrev pub given : AddCalls → Given ℕ
 given a = let b = done 29 a .0 in record { depth = a .D; zuniqs = take (b .number) (b .zuniqs); values = take (b .number) (b .values) }
 
 -- the defined pool of the two defined maps, last entry first
-abbrev pub poolOf : AddCalls → AddCalls → ℕ → Float → List (Entry ℕ)
-poolOf a b M T = reverse (definedPool (acceptCounts M T) (max (a .D) (b .D)) (mapOf 29 a) (mapOf 29 b))
+abbrev pub poolOf : List ℕ → AddCalls → AddCalls → ℕ → Float → List (Entry ℕ)
+poolOf P a b M T = reverse (definedPool (acceptCounts 29 P M T) (max (a .D) (b .D)) (mapOf 29 a) (mapOf 29 b))
 
--- "The two maps of demand 3 may differ in D, M and T": pooled with any M and T into buffers that held zs and vs
-pub record PoolClaim (a b : AddCalls) (M : ℕ) (T : Float) (zs vs : List ℕ) : Type 0 where
+-- "The two maps of demand 3 may differ in D, M and T", and in their lists: pooled with any M and T and one more list P into buffers that
+-- held zs and vs
+pub record PoolClaim (P : List ℕ) (a b : AddCalls) (M : ℕ) (T : Float) (zs vs : List ℕ) : Type 0 where
   -- neither map is refused
   pub maps : mapsRefusal (given a) (given b) ≡ none
   -- the answer, if it is not refused, is the defined pool, its total the sum of the two totals, with 0 in every place after it
-  pub pooled : poolRefusal (given a) (given b) M T (length zs) (length vs) ≡ none → let p = poolOf a b M T in
-      poolCounts (given a) (given b) M T zs vs ≡ (CountsAdded.Added (length p) (totalOf (mapOf 29 a) + totalOf (mapOf 29 b)), zuniqBuffer 29 (length zs) p, valueBuffer 0 (length vs) p)
+  pub pooled : poolRefusal P (given a) (given b) M T (length zs) (length vs) ≡ none → let p = poolOf P a b M T in
+      poolCounts P (given a) (given b) M T zs vs ≡ (CountsAdded.Added (length p) (totalOf (mapOf 29 a) + totalOf (mapOf 29 b)), zuniqBuffer 29 (length zs) p, valueBuffer 0 (length vs) p)
   -- a refusal leaves the output
-  pub refused : (x : Refusal) → poolRefusal (given a) (given b) M T (length zs) (length vs) ≡ some x → poolCounts (given a) (given b) M T zs vs ≡ (CountsAdded.Refused x, zs, vs)
+  pub refused : (x : Refusal) → poolRefusal P (given a) (given b) M T (length zs) (length vs) ≡ some x → poolCounts P (given a) (given b) M T zs vs ≡ (CountsAdded.Refused x, zs, vs)
   -- "Swapped, with all else handed in alike, they give the same answer and output, a refusal having the same number and place."
-  pub swapped : poolCounts (given b) (given a) M T zs vs ≡ poolCounts (given a) (given b) M T zs vs
+  pub swapped : poolCounts P (given b) (given a) M T zs vs ≡ poolCounts P (given a) (given b) M T zs vs

@@ -2,3 +2,4 @@ pub mod Cases
 pub mod Demand3
 pub mod Answers
 pub mod Former
+pub mod Unlisted

@@ -62,29 +62,29 @@ length-places : length places ≡ 2048
 unfolding places
 length-places = length-replicate {A = ℕ} 2048 0
 
-module _ (D M : ℕ) (T : Float) (hs ns : List ℕ) (e : countsRefusal 29 D M T 0 2048 2048 [] [] hs ns ≡ none) where
+module _ (D M : ℕ) (T : Float) (hs ns : List ℕ) (e : countsRefusal 29 [] D M T 0 2048 2048 [] [] hs ns ≡ none) where
   abbrev theMap : List (Entry ℕ)
-  theMap = definedMap (acceptCounts M T) D (batch D hs ns)
+  theMap = definedMap (acceptCounts 29 [] M T) D (batch D hs ns)
 
   rises : Rises D 0 (nHash D) (batch D hs ns)
   unfolding mapEnd
   rises =
-      let a = counts-accepted 29 D M T 0 2048 2048 [] [] hs ns e .0 in
+      let a = counts-accepted 29 [] D M T 0 2048 2048 [] [] hs ns e .0 in
       batch-rises D 0 0 hs ns (omega arith) (a .batched) (a .cells)
 
-  ran : run (acceptCounts M T) [] (batch D hs ns) ≡ reverse theMap
-  ran = run-gives-defined-map (acceptCounts M T) D (batch D hs ns) rises
+  ran : run (acceptCounts 29 [] M T) [] (batch D hs ns) ≡ reverse theMap
+  ran = run-gives-defined-map (acceptCounts 29 [] M T) D (batch D hs ns) rises
 
-  sum-is : totalOf (run (acceptCounts M T) [] (batch D hs ns)) ≡ sumOf ns
+  sum-is : totalOf (run (acceptCounts 29 [] M T) [] (batch D hs ns)) ≡ sumOf ns
   sum-is =
-      let a = counts-accepted 29 D M T 0 2048 2048 [] [] hs ns e .0 in
-      let r = run-total (acceptCounts M T) (λ n. n) (λ d h n0 n1 n2 n3 x q. accepted-count-is-sum M T d h n0 n1 n2 n3 x q) [] (batch D hs ns) in
+      let a = counts-accepted 29 [] D M T 0 2048 2048 [] [] hs ns e .0 in
+      let r = run-total (acceptCounts 29 [] M T) (λ n. n) (λ d h n0 n1 n2 n3 x q. accepted-count-is-sum 29 [] M T d h n0 n1 n2 n3 x q) [] (batch D hs ns) in
       omega (arith, r, batch-total D hs ns (a .batched))
 
   low : (c : Entry ℕ) → Has theMap c → (c .depth ≤ 29) × (c .hash < nHash (c .depth))
   low c m =
-      let a = counts-accepted 29 D M T 0 2048 2048 [] [] hs ns e .0 in
-      let r = defined-map-in-range (acceptCounts M T) D (batch D hs ns) c m in
+      let a = counts-accepted 29 [] D M T 0 2048 2048 [] [] hs ns e .0 in
+      let r = defined-map-in-range (acceptCounts 29 [] M T) D (batch D hs ns) c m in
       (omega (arith, r .0, a .shallow), r .1)
 
   -- what an accepted call on the program's buffers leaves and answers
@@ -103,21 +103,21 @@ module _ (D M : ℕ) (T : Float) (hs ns : List ℕ) (e : countsRefusal 29 D M T 
   abbrev textOf : Buffers ℕ × Answer Refusal Report → List ℕ
   textOf t = answerText (countsAdded (t .1)) (t .0 .zuniqs) (t .0 .values)
 
-  shown : (o : Option Refusal) (s : List (Entry ℕ)) → o ≡ none → textOf (answered (countCalls 29 D M T) o (record { number = 0; zuniqs = places; values = places }) s) ≡ answerOf (length places) s
+  shown : (o : Option Refusal) (s : List (Entry ℕ)) → o ≡ none → textOf (answered (countCalls 29 [] D M T) o (record { number = 0; zuniqs = places; values = places }) s) ≡ answerOf (length places) s
   shown none s q = refl
   shown (some r) s q = let z : _≡_ {A = ℕ} 0 1 = cc in absurd (omega arith)
 
-  accepted : countsRefusal 29 D M T 0 (length places) (length places) [] [] hs ns ≡ none
+  accepted : countsRefusal 29 [] D M T 0 (length places) (length places) [] [] hs ns ≡ none
   accepted = rw length-places e
 
   pub map-text : mapText D M T hs ns ≡ linesOf theMap ++ endText (length theMap) (sumOf ns)
   unfolding mapText addCounts addCall held readOnto
   map-text =
-      let s = run (acceptCounts M T) [] (batch D hs ns) in
-      shown (countsRefusal 29 D M T 0 (length places) (length places) [] [] hs ns) s accepted ∙ answer-is (length places) s ran sum-is
+      let s = run (acceptCounts 29 [] M T) [] (batch D hs ns) in
+      shown (countsRefusal 29 [] D M T 0 (length places) (length places) [] [] hs ns) s accepted ∙ answer-is (length places) s ran sum-is
 
 -- The program prints the defined map.
-pub prints-defined-map : (l : List ℕ) (D M T : ℕ) (hs ns : List ℕ) → reading l ≡ readable D M T hs ns → countsRefusal 29 D M (thousandths T) 0 2048 2048 [] [] hs ns ≡ none
-    → mombuild l ≡ linesOf (definedMap (acceptCounts M (thousandths T)) D (batch D hs ns)) ++ endText (length (definedMap (acceptCounts M (thousandths T)) D (batch D hs ns))) (sumOf ns)
+pub prints-defined-map : (l : List ℕ) (D M T : ℕ) (hs ns : List ℕ) → reading l ≡ readable D M T hs ns → countsRefusal 29 [] D M (thousandths T) 0 2048 2048 [] [] hs ns ≡ none
+    → mombuild l ≡ linesOf (definedMap (acceptCounts 29 [] M (thousandths T)) D (batch D hs ns)) ++ endText (length (definedMap (acceptCounts 29 [] M (thousandths T)) D (batch D hs ns))) (sumOf ns)
 unfolding mombuild
 prints-defined-map l D M T hs ns r e = rw r (map-text D M (thousandths T) hs ns e)

@@ -49,9 +49,9 @@ abbrev pub answerText : CountsAdded → List ℕ → List ℕ → List ℕ
 answerText (CountsAdded.Refused r) zs ns = refusedText (numberOf r) (placeOf r)
 answerText (CountsAdded.Added entries total) zs ns = entriesText (take entries zs) (take entries ns) ++ endText entries total
 
--- of the map of all cells, nothing being held
+-- of the map of all cells, nothing being held and no parent protected
 unfoldable pub mapText : ℕ → ℕ → Float → List ℕ → List ℕ → List ℕ
-mapText D M T hs ns = let t = addCounts 29 D M T 0 places places hs ns in answerText (t .0) (t .1) (t .2)
+mapText D M T hs ns = let t = addCounts 29 [] D M T 0 places places hs ns in answerText (t .0) (t .1) (t .2)
 
 -- "number 0 with the line (from 1) for unreadable text"
 abbrev pub printed : Reading → List ℕ

@@ -200,10 +200,12 @@ fn print_built(
 {
     let mut map_zuniqs = [0u64; MAX_CELLS];
     let mut map_counts = [0u32; MAX_CELLS];
+    // A text names no protected parents, so the list of them is empty.
     let added = add_counts(
         depth,
         depth_threshold,
         chi2_threshold,
+        &[],
         0,
         &mut map_zuniqs,
         &mut map_counts,

@@ -12,6 +12,9 @@ slice-aggregate-add-counts c = search needs
 slice-aggregate-add-counts-2 : tie.Need-slice-aggregate-add-counts-2
 slice-aggregate-add-counts-2 c = search needs
 
+slice-aggregate-add-counts-3 : tie.Need-slice-aggregate-add-counts-3
+slice-aggregate-add-counts-3 c = search needs
+
 add-counts-requires : tie.Need-add-counts-requires
 add-counts-requires c κs = search needs
 
@@ -20,7 +23,7 @@ print-answer-requires c κs = search needs
 
 returns : tie.Need-returns
 unfolding places
-returns c = let a = c .before .before .before .before .before .before .before .before .before .before .before .args in
+returns c = let a = c .before .before .before .before .before .before .before .before .before .before .before .before .args in
     let text = map-text-is (a .depth) (a .depth-threshold) (a .chi2-threshold) (a .hashes .now) (a .counts .now) (c .before .before .before .before .before .before .add-counts .ensures) in
     written-as text (c .print-answer .ensures)
 
@@ -30,6 +33,7 @@ print-built-spec =
     (tie.spec
     slice-aggregate-add-counts
     slice-aggregate-add-counts-2
+    slice-aggregate-add-counts-3
     add-counts-requires
     print-answer-requires
     returns)
