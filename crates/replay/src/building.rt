@@ -1,4 +1,4 @@
-// Section 4: building.
+// Section 4: building, under the protected parents of note 7 of document 02.
 use crate::answer::Answer;
 use crate::arguments::MAX_BYTE;
 use crate::arguments::MAX_COUNT;
@@ -12,12 +12,14 @@ use crate::floats::float_of;
 use build::counts::CountsAdded;
 use build::densities::DensitiesAdded;
 
-// D, M, T and the number held, in front of the four lists.
+// D, M and T, in front of the protected parents, the number held behind them, and the place in the line
+// behind that, from which on the four lists stand.
 pub struct Settings {
     pub depth: u8,
     pub depth_threshold: u8,
     pub chi2_threshold: f64,
     pub held: usize,
+    pub next: usize,
 }
 
 pub enum Read {
@@ -25,8 +27,12 @@ pub enum Read {
     Unreadable,
 }
 
-pub(crate) fn read_settings(numbers: &[u64]) -> Read {
-    if numbers.len() < 4 {
+// The number held stands at `at`.
+pub(crate) fn read_settings(numbers: &[u64], at: usize) -> Read {
+    if numbers.len() < 3 {
+        return Read::Unreadable;
+    }
+    if at >= numbers.len() {
         return Read::Unreadable;
     }
     if numbers[0] > MAX_BYTE || numbers[1] > MAX_BYTE {
@@ -36,15 +42,23 @@ pub(crate) fn read_settings(numbers: &[u64]) -> Read {
         depth: byte_of(numbers[0]),
         depth_threshold: byte_of(numbers[1]),
         chi2_threshold: float_of(numbers[2]),
-        held: place_of(numbers[3]),
+        held: place_of(numbers[at]),
+        next: at + 1,
     })
 }
 
 pub(crate) fn add_counts(numbers: &[u64]) -> Answer {
-    let Read::Settings(settings) = read_settings(numbers) else {
+    let listed = list_at(numbers, 3, MAX_LONG);
+    let Read::Settings(settings) = read_settings(numbers, listed.next) else {
         return Answer::unreadable();
     };
-    let map = list_at(numbers, 4, MAX_LONG);
+    let protected = listed.items;
+    add_counts_under(&protected[..listed.len], settings, numbers)
+}
+
+// The buffers and the batch stand behind the settings.
+fn add_counts_under(protected: &[u64], settings: Settings, numbers: &[u64]) -> Answer {
+    let map = list_at(numbers, settings.next, MAX_LONG);
     let map_counts = list_at(numbers, map.next, MAX_COUNT);
     let cells = list_at(numbers, map_counts.next, MAX_LONG);
     let cell_counts = list_at(numbers, cells.next, MAX_COUNT);
@@ -63,6 +77,7 @@ pub(crate) fn add_counts(numbers: &[u64]) -> Answer {
     let batch = cell_values.items;
     let n_batch = cell_values.len;
     add_counts_to(
+        protected,
         settings,
         &mut zuniqs[..places],
         &mut counts[..value_places],
@@ -73,6 +88,7 @@ pub(crate) fn add_counts(numbers: &[u64]) -> Answer {
 }
 
 fn add_counts_to(
+    protected: &[u64],
     settings: Settings,
     zuniqs: &mut [u64],
     counts: &mut [u32],
@@ -84,6 +100,7 @@ fn add_counts_to(
         settings.depth,
         settings.depth_threshold,
         settings.chi2_threshold,
+        protected,
         settings.held,
         zuniqs,
         counts,
@@ -112,10 +129,16 @@ pub(crate) fn counts_added(
 }
 
 pub(crate) fn add_densities(numbers: &[u64]) -> Answer {
-    let Read::Settings(settings) = read_settings(numbers) else {
+    let listed = list_at(numbers, 3, MAX_LONG);
+    let Read::Settings(settings) = read_settings(numbers, listed.next) else {
         return Answer::unreadable();
     };
-    let map = list_at(numbers, 4, MAX_LONG);
+    let protected = listed.items;
+    add_densities_under(&protected[..listed.len], settings, numbers)
+}
+
+fn add_densities_under(protected: &[u64], settings: Settings, numbers: &[u64]) -> Answer {
+    let map = list_at(numbers, settings.next, MAX_LONG);
     let map_densities = list_at(numbers, map.next, MAX_LONG);
     let cells = list_at(numbers, map_densities.next, MAX_LONG);
     let cell_densities = list_at(numbers, cells.next, MAX_LONG);
@@ -134,6 +157,7 @@ pub(crate) fn add_densities(numbers: &[u64]) -> Answer {
     let batch = cell_values.items;
     let n_batch = cell_values.len;
     add_densities_to(
+        protected,
         settings,
         &mut zuniqs[..places],
         &mut densities[..value_places],
@@ -144,6 +168,7 @@ pub(crate) fn add_densities(numbers: &[u64]) -> Answer {
 }
 
 fn add_densities_to(
+    protected: &[u64],
     settings: Settings,
     zuniqs: &mut [u64],
     densities: &mut [f64],
@@ -155,6 +180,7 @@ fn add_densities_to(
         settings.depth,
         settings.depth_threshold,
         settings.chi2_threshold,
+        protected,
         settings.held,
         zuniqs,
         densities,

@@ -5,18 +5,20 @@
 //     to_zuniq DEPTH HASH                           ZUNIQ
 //     from_zuniq ZUNIQ                              DEPTH HASH, or nothing
 //     are_overlapping LEFT RIGHT                    0 or 1
-//     chi2_count_merger P M T N0 N1 N2 N3           1 COUNT for merged, 0 CHI for kept
-//     chi2_density_merger P M T M0 M1 M2 M3         1 DENSITY for merged, 0 CHI for kept
+//     chi2_count_merger P HASH M T PROTECTED N0 N1 N2 N3
+//                                                   1 COUNT for merged, 0 CHI for kept
+//     chi2_density_merger P HASH M T PROTECTED M0 M1 M2 M3
+//                                                   1 DENSITY for merged, 0 CHI for kept
 //     check_is_mom D ZUNIQS                         0 for valid, or the fault, 1 to 4, and its place
 //     get_cell_containing D ZUNIQS ZUNIQ            PLACE, or nothing
 //     get_overlapped_cells ZUNIQS ZUNIQ             FIRST PART
-//     add_counts D M T HELD ZUNIQS COUNTS HASHES BATCH
+//     add_counts D M T PROTECTED HELD ZUNIQS COUNTS HASHES BATCH
 //                                                   ENTRIES TOTAL ZUNIQS COUNTS
-//     add_densities D M T HELD ZUNIQS DENSITIES HASHES BATCH
+//     add_densities D M T PROTECTED HELD ZUNIQS DENSITIES HASHES BATCH
 //                                                   ENTRIES ZUNIQS DENSITIES
-//     pool D ZUNIQS COUNTS D ZUNIQS COUNTS M T ZUNIQS COUNTS
+//     pool D ZUNIQS COUNTS D ZUNIQS COUNTS M T PROTECTED ZUNIQS COUNTS
 //                                                   ENTRIES TOTAL ZUNIQS COUNTS
-//     product D ZUNIQS DENSITIES D ZUNIQS DENSITIES M T K ZUNIQS DENSITIES
+//     product D ZUNIQS DENSITIES D ZUNIQS DENSITIES M T K PROTECTED ZUNIQS DENSITIES
 //                                                   ENTRIES ZUNIQS DENSITIES
 //     read_count_rows BYTES ZUNIQS COUNTS           ROWS ZUNIQS COUNTS
 //     read_density_rows BYTES ZUNIQS PATTERNS       ROWS ZUNIQS PATTERNS

@@ -105,7 +105,7 @@ fn pool_with(
     )
 }
 
-// M, T and the output stand from `at` on.
+// M, T, the protected parents and the output stand from `at` on.
 fn pool_into(
     left_depth: u8,
     left_zuniqs: &[u64],
@@ -119,11 +119,13 @@ fn pool_into(
     let Read::Settings(settings) = settings_at(numbers, at, 2) else {
         return Answer::unreadable();
     };
-    let output = list_at(numbers, settings.next, MAX_LONG);
+    let listed = list_at(numbers, settings.next, MAX_LONG);
+    let output = list_at(numbers, listed.next, MAX_LONG);
     let output_counts = list_at(numbers, output.next, MAX_COUNT);
     if output_counts.next > numbers.len() {
         return Answer::unreadable();
     }
+    let protected = listed.items;
     let mut zuniqs = output.items;
     let len = output.len;
     let values = counts_of(output_counts);
@@ -137,6 +139,7 @@ fn pool_into(
         right_zuniqs,
         right_counts,
         settings,
+        &protected[..listed.len],
         &mut zuniqs[..len],
         &mut counts[..n],
         output_counts.next,
@@ -151,6 +154,7 @@ fn pooled(
     right_zuniqs: &[u64],
     right_counts: &[u32],
     settings: Settings,
+    protected: &[u64],
     zuniqs: &mut [u64],
     counts: &mut [u32],
     arguments: usize,
@@ -164,6 +168,7 @@ fn pooled(
         right_counts,
         settings.depth_threshold,
         settings.chi2_threshold,
+        protected,
         zuniqs,
         counts,
     );
@@ -228,7 +233,7 @@ fn product_with(
     )
 }
 
-// M, T, k and the output stand from `at` on.
+// M, T, k, the protected parents and the output stand from `at` on.
 fn product_into(
     left_depth: u8,
     left_zuniqs: &[u64],
@@ -242,11 +247,13 @@ fn product_into(
     let Read::Settings(settings) = settings_at(numbers, at, 3) else {
         return Answer::unreadable();
     };
-    let output = list_at(numbers, settings.next, MAX_LONG);
+    let listed = list_at(numbers, settings.next, MAX_LONG);
+    let output = list_at(numbers, listed.next, MAX_LONG);
     let output_densities = list_at(numbers, output.next, MAX_LONG);
     if output_densities.next > numbers.len() {
         return Answer::unreadable();
     }
+    let protected = listed.items;
     let mut zuniqs = output.items;
     let len = output.len;
     let values = floats_of(output_densities);
@@ -260,6 +267,7 @@ fn product_into(
         right_zuniqs,
         right_densities,
         settings,
+        &protected[..listed.len],
         &mut zuniqs[..len],
         &mut densities[..n],
         output_densities.next,
@@ -274,6 +282,7 @@ fn multiplied(
     right_zuniqs: &[u64],
     right_densities: &[f64],
     settings: Settings,
+    protected: &[u64],
     zuniqs: &mut [u64],
     densities: &mut [f64],
     arguments: usize,
@@ -288,6 +297,7 @@ fn multiplied(
         settings.depth_threshold,
         settings.chi2_threshold,
         settings.k,
+        protected,
         zuniqs,
         densities,
     );

@@ -9,7 +9,7 @@ use crate::kind::Kind;
 use crate::kind::Named;
 use crate::kind::named_by;
 
-// The most numbers that a line, or an answer, holds: maps of a dozen entries pooled take some 110.
+// The most numbers that a line, or an answer, holds: maps of a dozen entries pooled take some 120.
 pub const MOST: usize = 128;
 
 // A line that was read: `count` numbers, and 0 in the places after them. One that is unreadable

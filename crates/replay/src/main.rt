@@ -11,7 +11,7 @@
 //   with the answer: the values, `none`, what the merger or the check said, or `refused,number,place`. An
 //   f64 in tenths is printed so, any other as its pattern.
 //
-//     ? chi2_count_merger 0 0 3.0 1 2 4 4  ->  chi2_count_merger 0 0 3.0 1 2 4 4 = kept 3.0
+//     ? chi2_count_merger 0 0 0 3.0 0 1 2 4 4  ->  chi2_count_merger 0 0 0 3.0 0 1 2 4 4 = kept 3.0
 //
 // - Any other has the numbers that the original Rust answered behind the arguments.
 //
@@ -56,7 +56,7 @@ use line::read;
 use print::print_answer;
 use tally::Tally;
 
-// The input has some 250,000 bytes.
+// The input has some 255,000 bytes.
 const MAX_INPUT: usize = 262_144;
 
 fn main() {

@@ -78,10 +78,18 @@ pub(crate) fn get_overlapped_cells(numbers: &[u64]) -> Answer {
 }
 
 pub(crate) fn add_counts(numbers: &[u64]) -> Answer {
-    let Read::Settings(settings) = read_settings(numbers) else {
+    let listed = list_at(numbers, 3, MAX_COUNT);
+    let Read::Settings(settings) = read_settings(numbers, listed.next) else {
         return Answer::unreadable();
     };
-    let map = list_at(numbers, 4, MAX_COUNT);
+    let parents = counts_of(listed);
+    let protected = parents.items;
+    add_counts_under(&protected[..parents.len], settings, numbers)
+}
+
+// The buffers and the batch stand behind the settings.
+fn add_counts_under(protected: &[u32], settings: Settings, numbers: &[u64]) -> Answer {
+    let map = list_at(numbers, settings.next, MAX_COUNT);
     let map_counts = list_at(numbers, map.next, MAX_COUNT);
     let cells = list_at(numbers, map_counts.next, MAX_COUNT);
     let cell_counts = list_at(numbers, cells.next, MAX_COUNT);
@@ -102,6 +110,7 @@ pub(crate) fn add_counts(numbers: &[u64]) -> Answer {
     let batch = cell_values.items;
     let n_batch = cell_values.len;
     add_counts_to(
+        protected,
         settings,
         &mut zuniqs[..places],
         &mut counts[..value_places],
@@ -112,6 +121,7 @@ pub(crate) fn add_counts(numbers: &[u64]) -> Answer {
 }
 
 fn add_counts_to(
+    protected: &[u32],
     settings: Settings,
     zuniqs: &mut [u32],
     counts: &mut [u32],
@@ -123,6 +133,7 @@ fn add_counts_to(
         settings.depth,
         settings.depth_threshold,
         settings.chi2_threshold,
+        protected,
         settings.held,
         zuniqs,
         counts,
