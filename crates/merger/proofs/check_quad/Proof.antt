@@ -41,14 +41,6 @@ returns-4 c =
 listed : (c : tie.After-enum-told) → let a = c .before .before .before .before .before .before .before .before .args in protectedRefusal 29 (a .protected .now) ≡ none
 listed c = check-passed _ (sym (c .enum-told .given .1) ∙ c .before .before .check-protected .ensures)
 
-returns-5 : tie.Need-returns-5
-unfolding quadRefusal
-returns-5 c =
-    let told = c .before .before in
-    let t = told .before .before .before .before in
-    let a = t .before .before .before .before .args in
-    rw (le-ltb 28 (a .parent-depth) (omega arith), le-ltb 29 (a .depth-threshold) (omega arith), ← t .is-nan .ensures, told .before .before .before .if3 .left, listed told, ← c .before .n-hash-unchecked .ensures, le-leb (c .before .n-hash-unchecked .result) (a .parent-hash) (c .if4 .taken))
-
 returns-6 : tie.Need-returns-6
 unfolding quadRefusal
 returns-6 c =
@@ -56,6 +48,14 @@ returns-6 c =
     let t = told .before .before .before .before in
     let a = t .before .before .before .before .args in
     rw (le-ltb 28 (a .parent-depth) (omega arith), le-ltb 29 (a .depth-threshold) (omega arith), ← t .is-nan .ensures, told .before .before .before .if3 .left, listed told, ← c .before .n-hash-unchecked .ensures, lt-leb (c .before .n-hash-unchecked .result) (a .parent-hash) (c .if4 .left))
+
+returns-5 : tie.Need-returns-5
+unfolding quadRefusal
+returns-5 c =
+    let told = c .before .before in
+    let t = told .before .before .before .before in
+    let a = t .before .before .before .before .args in
+    rw (le-ltb 28 (a .parent-depth) (omega arith), le-ltb 29 (a .depth-threshold) (omega arith), ← t .is-nan .ensures, told .before .before .before .if3 .left, listed told, ← c .before .n-hash-unchecked .ensures, le-leb (c .before .n-hash-unchecked .result) (a .parent-hash) (c .if4 .taken))
 
 is-nan-requires : tie.Need-is-nan-requires
 is-nan-requires c κs = search needs
