@@ -3,6 +3,7 @@
 use mathlib.Core.Path.{_≡_, refl, ap, sym, _∙_, subst}
 use mathlib.Core.Bool.{Bool, true, false, cond}
 use mathlib.Core.List.{List, [], _∷_}
+use mathlib.Core.Logic.{⊎-elim}
 use mathlib.Core.Option.{Option, none, some, Option·map}
 use Prim.Native.Nat.{ℕ, zero, suc, _+_, _*_, _≤_, _<_, _/_, _%_, _-_, _^_}
 use native.Mathlib.Numerals.{add-one}
@@ -13,14 +14,14 @@ use lib.Seq.{getD-set-same}
 use borrow.Author.Tests.{leb-true}
 use Rattle.zuniq.specs.Cells.{nHash}
 use Rattle.zuniq.specs.Codec.{zuniq, IsZuniqOf}
-use Rattle.zuniq.proofs.Basics.{and-is-true}
+use Rattle.zuniq.proofs.Basics.{and-is-true, le-or-lt}
 use Rattle.zuniq.proofs.Ranges.{child-valid-iff}
 use Rattle.build.specs.Map.{Entry, entry, Merger}
 use Rattle.build.specs.Stack.{step, collapseUpTo, collapse}
 use Rattle.build.specs.Promises.{total, Sums}
 use Rattle.build.specs.Buffers.{held}
 use Rattle.build.specs.Standing.{Stands, quadAt, Collapsed}
-use Rattle.build.proofs.Places.{held-suc, held-set, stands-set, fewer}
+use Rattle.build.proofs.Places.{held-suc, held-set, stands-set, fewer, behind-same}
 use Rattle.build.proofs.Quads.{stepAt, step-at}
 
 -- A map without a step stays.
@@ -152,3 +153,13 @@ module _ {A : Type 0} {accept : Merger A} {K : ℕ} {u : A} (figure : A → ℕ)
       let v : IsZuniqOf K z (d - 1) (h / 4) = rw y (parent-zuniq p (t .top)) in
       let s = sums (d - 1) (h / 4) (getD vs (n - 4) u) (getD vs (n - 3) u) (getD vs (n - 2) u) last x a in
       total-merged K u figure zs vs n z (d - 1) (h / 4) x (four-left t e) (t .stands) v (rw (t .value) s)
+
+-- Where the last four are no quad, collapsing leaves the map as it stands.
+pub no-quad-collapsed : {A : Type 0} {accept : Merger A} {K : ℕ} {u : A} {n d h : ℕ} {x : A} {zs : List ℕ} {vs : List A} → Turning accept K u (collapse accept (held K n zs vs)) n d h x zs vs
+    → quadAt K n zs d h ≡ false → Collapsed accept K n zs vs n zs vs
+no-quad-collapsed {d = d} t e = record {
+  stands = t .stands;
+  least = omega arith;
+  is = ⊎-elim (λ z. turning-ends t (omega (arith, z))) (λ p. no-quad-ends t p e) (le-or-lt d 0);
+  behind = behind-same _ _ _;
+}

@@ -293,8 +293,8 @@ pub fn push(
     ensures { λ r. ⌜ Pushed (acceptDensities (now (protected .entry)) «depth_threshold» «chi2_threshold») 29 n (entry depth hash density) (now (zuniqs .entry)) (now (densities .entry)) r (now (zuniqs .exit)) (now (densities .exit)) ⌝ }
 {
     append(zuniqs, densities, n, zuniq, density);
-    // Most cells are no fourth child: for them that is all.
-    if hash % 4 != 3 {
+    // Most cells complete no four siblings: for them that is all.
+    if !are_siblings(zuniqs, n + 1, depth, hash) {
         return n + 1;
     }
     collapse(
