@@ -1,5 +1,5 @@
 -- The checks of an add call, turn by turn. Assumes nothing.
-use mathlib.Core.Path.{_≡_, refl, ap, sym, _∙_}
+use mathlib.Core.Path.{_≡_, refl, ap, _∙_}
 use mathlib.Core.Bool.{Bool, true, false, _||_, not, true≢false}
 use mathlib.Core.List.{List, [], _∷_}
 use mathlib.Core.Logic.{⊎-elim}
@@ -19,7 +19,7 @@ use Rattle.zuniq.proofs.Basics.{le-or-lt}
 use Rattle.mom.specs.Map.{firstFault, ValidMap}
 use Rattle.mom.specs.declared.FirstFault.{FirstFault}
 use Rattle.mom.proofs.Faults.{no-fault-iff-valid}
-use Rattle.refusal.specs.Checks.{orElse, refusedIf, checkOf}
+use Rattle.refusal.specs.Checks.{orElse, refusedIf}
 use Rattle.build.specs.declared.HeldMap.{HeldMap}
 use Rattle.build.specs.declared.counts.Total.{Total}
 use Rattle.build.specs.Add.{settingsRefusal, lengthsRefusal, mapRefusal, heldOr, cellRefusal, cellsRefusal, hashesRefusal, sumOf, cappedSum, sumRefusal, totalRefusal, spaceRefusal}

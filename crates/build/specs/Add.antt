@@ -1,6 +1,6 @@
 -- Section 4 of the scope: the add calls. A call's refusals are one definition, the first that applies in the order of the
 -- table "Refusals in checking order"; its answer and both buffers afterwards are another.
-use mathlib.Core.Bool.{Bool, true, false, _||_, not}
+use mathlib.Core.Bool.{Bool, _||_, not}
 use mathlib.Core.List.{List, [], _∷_}
 use mathlib.Core.Option.{Option, none, some}
 use Prim.Native.Nat.{ℕ, _+_, min}

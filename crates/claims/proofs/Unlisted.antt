@@ -5,14 +5,13 @@ use mathlib.Core.Bool.{Bool, true, false, cond}
 use mathlib.Core.List.{List, [], reverse}
 use mathlib.Core.Option.{Option, none, some}
 use Prim.Native.Nat.{ℕ, _+_, _<_}
-use lib.Dec.{leb, ltb}
+use lib.Dec.{ltb}
 use lib.Ieee.{Float, isNan}
 use lib.ListN.{length, take}
 use borrow.Author.Tests.{lt-leb}
 use Rattle.refusal.specs.Checks.{orElse, refusedIf}
 use Rattle.refusal.specs.declared.Refusal.{Refusal}
 use Rattle.zuniq.specs.Cells.{nHash}
-use Rattle.protection.specs.Protected.{protectedRefusal}
 use Rattle.protection.proofs.Listed.{nothing-protected}
 use Rattle.protection.proofs.Lists.{empty-list-accepted}
 use Rattle.merger.specs.Merge.{mergeByChi, mergeCounts, mergedCount, acceptCounts, quadRefusal, countMergerOr, countMerger, unitDensity, mergeDensitiesByChi, mergeDensitiesWith, mergeDensities, mergedDensity, acceptDensities, firstInvalid, densityMergerOr, densityMerger}
@@ -23,7 +22,7 @@ use Rattle.merger.specs.declared.DensityMerger.{DensityMerger}
 use Rattle.build.specs.Map.{Entry}
 use Rattle.build.specs.Buffers.{held, batch}
 use Rattle.build.specs.Stack.{run}
-use Rattle.build.specs.Calls.{Buffers, Answer, Calls, answered, addCall}
+use Rattle.build.specs.Calls.{Buffers, Answer, answered, addCall}
 use Rattle.build.specs.Counts.{countsRefusal, countCalls, Report, countsAdded, addCounts}
 use Rattle.build.specs.Densities.{densitiesRefusal, densityCalls, densitiesAdded, addDensities}
 use Rattle.build.specs.declared.counts.CountsAdded.{CountsAdded}

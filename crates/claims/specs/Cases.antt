@@ -24,7 +24,7 @@ use Rattle.merger.specs.declared.CountMerger.{CountMerger}
 use Rattle.mom.specs.Map.{isYes, overlaps, faultAfter, faultOf, faultAt, atOr, faultFrom, firstFault}
 use Rattle.build.specs.Map.{Entry, entry, joined, listed, whole, tops, definedMap}
 use Rattle.build.specs.Buffers.{batch, laid, filled, readOnto, held}
-use Rattle.build.specs.Add.{settingsRefusal, lengthsRefusal, mapRefusal, cellsRefusal, mapEnd, sumOf, totalRefusal, sumRefusal, spaceRefusal}
+use Rattle.build.specs.Add.{settingsRefusal, lengthsRefusal, mapRefusal, spaceRefusal}
 use Rattle.build.specs.Calls.{addCall}
 use Rattle.build.specs.Counts.{countsRefusal, addCounts}
 use Rattle.build.specs.declared.counts.CountsAdded.{CountsAdded}

@@ -13,7 +13,7 @@ use borrow.Author.Tests.{le-leb, lt-leb, leb-true}
 use Rattle.zuniq.proofs.Basics.{and-is-true}
 use Rattle.protection.specs.Protected.{isProtected}
 use Rattle.merger.specs.Floats.{_⊘_, 4·0}
-use Rattle.merger.specs.Merge.{merges, sumOf, chiOfCounts, mergeByChi, blank, mergeCounts, mergedCount, acceptCounts, chiOfDensities, mergeDensitiesByChi, mergeDensitiesWith, mergeDensities, mergedDensity, acceptDensities}
+use Rattle.merger.specs.Merge.{sumOf, chiOfCounts, mergeByChi, blank, mergeCounts, mergedCount, acceptCounts, chiOfDensities, mergeDensitiesByChi, mergeDensitiesWith, mergeDensities, mergedDensity, acceptDensities}
 use Rattle.merger.specs.declared.CountMerge.{CountMerge}
 use Rattle.merger.specs.declared.DensityMerge.{DensityMerge}
 use Rattle.merger.proofs.Floats.{lt-self}

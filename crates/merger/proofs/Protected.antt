@@ -1,7 +1,7 @@
 -- Protected parents, note 7 of 02: "A quad whose parent is listed is kept, though blank quads of Note 4 merge first", and in all else both
 -- mergers are as with an empty list. Assumes nothing.
-use mathlib.Core.Path.{_≡_, refl, sym, _∙_}
-use mathlib.Core.Bool.{Bool, true, false, _&&_, _||_, not, cond, and-false, false≢true}
+use mathlib.Core.Path.{_≡_, refl, _∙_}
+use mathlib.Core.Bool.{Bool, true, false, _&&_, not, cond, and-false, false≢true}
 use mathlib.Core.List.{List, []}
 use mathlib.Core.Logic.{_⊎_, inl, inr, ⊎-map, ⊎-elim}
 use mathlib.Core.Option.{none, some}
@@ -12,7 +12,7 @@ use Rattle.zuniq.proofs.Basics.{or-is-true}
 use Rattle.protection.specs.Protected.{isProtected}
 use Rattle.protection.proofs.Listed.{nothing-protected}
 use Rattle.merger.specs.Floats.{_⊘_, 4·0}
-use Rattle.merger.specs.Merge.{merges, sumOf, chiOfCounts, mergeByChi, blank, mergeCounts, acceptCounts, chiOfDensitiesWith, chiOfDensities, mergeDensitiesByChi, mergeDensitiesWith, acceptDensities}
+use Rattle.merger.specs.Merge.{merges, sumOf, chiOfCounts, mergeByChi, blank, mergeCounts, acceptCounts, chiOfDensitiesWith, mergeDensitiesByChi, mergeDensitiesWith, acceptDensities}
 use Rattle.merger.specs.declared.CountMerge.{CountMerge}
 use Rattle.merger.specs.declared.DensityMerge.{DensityMerge}
 use Rattle.merger.proofs.Blank.{no-blank, not-blank, sum-of-blank}

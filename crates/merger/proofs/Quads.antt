@@ -7,7 +7,7 @@ use native.Mathlib.Omega.{arith}
 use lib.Dec.{leb, ltb}
 use lib.Ieee.{Float, isNan}
 use borrow.Author.Tests.{ltb-false, leb-false}
-use Rattle.refusal.specs.Checks.{orElse, refusedIf}
+use Rattle.refusal.specs.Checks.{refusedIf}
 use Rattle.refusal.specs.declared.Refusal.{Refusal}
 use Rattle.refusal.proofs.Checks.{or-else-none, refused-if-none}
 use Rattle.zuniq.specs.Cells.{nHash}

@@ -33,8 +33,8 @@ excess sum w = sum ⊖ 4·0 ⊗ (4·0 ⊘ w)
 abbrev pub merges : (M : ℕ) (T : Float) (p : ℕ) (chi : Float) → Bool
 merges M T p chi = leb M p && lt chi T
 
--- the refusals that both merger calls have, in the order of the table. 1: "in a merger call the parent depth is 29"; 2; 3; note 7 of 02:
--- 15, "tried after 3"; "A merger call now takes the parent's hash too, 7 if out of range"
+-- the refusals that both merger calls have, in the order of the table. 1: "a merger's parent depth is over 28"; 2; 3; note 7 of 02: 15,
+-- "tried after 3"; "A merger call now takes the parent's hash too, 7 if out of range"
 unfoldable pub quadRefusal : (P : List ℕ) (M : ℕ) (T : Float) (p h : ℕ) → Option Refusal
 quadRefusal P M T p h =
     orElse (refusedIf (ltb 28 p) Refusal.DepthOutOfRange)

@@ -35,19 +35,20 @@ const BLANK: Dhzv = Dhzv {
 
 // Walks the overlay of two valid maps. Counting, it answers how many cells the pool has before
 // merging; merging, it makes the pool in the two output buffers and answers how many entries it has.
+// `list` has the protected parents.
 pub(crate) fn pool_cells(
     left_zuniqs: &[u64],
     left_counts: &[u32],
     right_zuniqs: &[u64],
     right_counts: &[u32],
     pass: Pass,
-    protected: &[u64],
+    list: &[u64],
     zuniqs: &mut [u64],
     counts: &mut [u32],
 ) -> usize
-    requires { ⌜ Holds (now «left_zuniqs») (now «left_counts») × Holds (now «right_zuniqs») (now «right_counts») × (totalOf (entriesOf (now «left_zuniqs») (now «left_counts»)) + totalOf (entriesOf (now «right_zuniqs») (now «right_counts»)) ≤ 4294967295) × RisingList (now protected) ⌝ }
+    requires { ⌜ Holds (now «left_zuniqs») (now «left_counts») × Holds (now «right_zuniqs») (now «right_counts») × (totalOf (entriesOf (now «left_zuniqs») (now «left_counts»)) + totalOf (entriesOf (now «right_zuniqs») (now «right_counts»)) ≤ 4294967295) × RisingList (now list) ⌝ }
     requires { ⌜ Room pass (poolCells (now «left_zuniqs») (now «left_counts») (now «right_zuniqs») (now «right_counts»)) (now zuniqs) (now counts) ⌝ }
-    ensures { λ r. ⌜ Outcome pass (acceptCounts 29 (now (protected .entry))) 0 (poolCells (now («left_zuniqs» .entry)) (now («left_counts» .entry)) (now («right_zuniqs» .entry)) (now («right_counts» .entry))) (now (zuniqs .entry)) (now (counts .entry)) r (now (zuniqs .exit)) (now (counts .exit)) ⌝ }
+    ensures { λ r. ⌜ Outcome pass (acceptCounts 29 (now (list .entry))) 0 (poolCells (now («left_zuniqs» .entry)) (now («left_counts» .entry)) (now («right_zuniqs» .entry)) (now («right_counts» .entry))) (now (zuniqs .entry)) (now (counts .entry)) r (now (zuniqs .exit)) (now (counts .exit)) ⌝ }
 {
     let mut lefts = [BLANK; 87];
     let mut rights = [BLANK; 87];
@@ -60,36 +61,15 @@ pub(crate) fn pool_cells(
         match turn_of(left, right) {
             Turn::Stop => return n,
             Turn::Left(a) => {
-                n = keep(
-                    pass,
-                    protected,
-                    pool(LhsRhsBoth::Left(a)),
-                    zuniqs,
-                    counts,
-                    n,
-                );
+                n = keep(pass, list, pool(LhsRhsBoth::Left(a)), zuniqs, counts, n);
                 left.taken = true;
             }
             Turn::Right(b) => {
-                n = keep(
-                    pass,
-                    protected,
-                    pool(LhsRhsBoth::Right(b)),
-                    zuniqs,
-                    counts,
-                    n,
-                );
+                n = keep(pass, list, pool(LhsRhsBoth::Right(b)), zuniqs, counts, n);
                 right.taken = true;
             }
             Turn::Both(a, b) => {
-                n = keep(
-                    pass,
-                    protected,
-                    pool(LhsRhsBoth::Both(a, b)),
-                    zuniqs,
-                    counts,
-                    n,
-                );
+                n = keep(pass, list, pool(LhsRhsBoth::Both(a, b)), zuniqs, counts, n);
                 left.taken = true;
                 right.taken = true;
             }
@@ -114,14 +94,14 @@ pub(crate) fn pool_cells(
 // Counts a cell behind n others, or merges it into n entries. Answers the new number.
 fn keep(
     pass: Pass,
-    protected: &[u64],
+    list: &[u64],
     cell: Dhzv,
     zuniqs: &mut [u64],
     counts: &mut [u32],
     n: usize,
 ) -> usize
-    requires { ⌜ CanKeep pass n (zuniqIn cell) (asEntry cell) (now zuniqs) (now counts) × TotalFits pass n cell (now zuniqs) (now counts) × RisingList (now protected) ⌝ }
-    ensures { λ r. ⌜ Outcome pass (acceptCounts 29 (now (protected .entry))) n (asEntry cell ∷ []) (now (zuniqs .entry)) (now (counts .entry)) r (now (zuniqs .exit)) (now (counts .exit)) ⌝ }
+    requires { ⌜ CanKeep pass n (zuniqIn cell) (asEntry cell) (now zuniqs) (now counts) × TotalFits pass n cell (now zuniqs) (now counts) × RisingList (now list) ⌝ }
+    ensures { λ r. ⌜ Outcome pass (acceptCounts 29 (now (list .entry))) n (asEntry cell ∷ []) (now (zuniqs .entry)) (now (counts .entry)) r (now (zuniqs .exit)) (now (counts .exit)) ⌝ }
 {
     match pass {
         Pass::Count => n + 1,
@@ -138,7 +118,7 @@ fn keep(
             cell.value,
             depth_threshold,
             chi2_threshold,
-            protected,
+            list,
         ),
     }
 }

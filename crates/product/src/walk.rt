@@ -36,7 +36,7 @@ const BLANK: Dhzv = Dhzv {
 
 // Walks the overlay of two valid maps. Counting, it answers how many cells the product has before
 // merging; merging, it makes the product in the two output buffers and answers how many entries it
-// has. Either ends at the first value that is not finite.
+// has. Either ends at the first value that is not finite. `list` has the protected parents.
 pub(crate) fn product_cells(
     left_zuniqs: &[u64],
     left_densities: &[f64],
@@ -44,13 +44,13 @@ pub(crate) fn product_cells(
     right_densities: &[f64],
     k: f64,
     pass: Pass,
-    protected: &[u64],
+    list: &[u64],
     zuniqs: &mut [u64],
     densities: &mut [f64],
 ) -> Cells
-    requires { ⌜ Holds (now «left_zuniqs») (now «left_densities») × Holds (now «right_zuniqs») (now «right_densities») × RisingList (now protected) ⌝ }
+    requires { ⌜ Holds (now «left_zuniqs») (now «left_densities») × Holds (now «right_zuniqs») (now «right_densities») × RisingList (now list) ⌝ }
     requires { ⌜ Room pass (productCells k (now «left_zuniqs») (now «left_densities») (now «right_zuniqs») (now «right_densities»)) (now zuniqs) (now densities) ⌝ }
-    ensures { λ r. ⌜ CellsOutcome (now (protected .entry)) pass 0 (productCells k (now («left_zuniqs» .entry)) (now («left_densities» .entry)) (now («right_zuniqs» .entry)) (now («right_densities» .entry))) (now (zuniqs .entry)) (now (densities .entry)) r (now (zuniqs .exit)) (now (densities .exit)) ⌝ }
+    ensures { λ r. ⌜ CellsOutcome (now (list .entry)) pass 0 (productCells k (now («left_zuniqs» .entry)) (now («left_densities» .entry)) (now («right_zuniqs» .entry)) (now («right_densities» .entry))) (now (zuniqs .entry)) (now (densities .entry)) r (now (zuniqs .exit)) (now (densities .exit)) ⌝ }
 {
     let mut lefts = [BLANK; 87];
     let mut rights = [BLANK; 87];
@@ -63,18 +63,15 @@ pub(crate) fn product_cells(
         match turn_of(left, right) {
             Turn::Stop => return cells,
             Turn::Left(a) => {
-                let seen = LhsRhsBoth::Left(a);
-                cells = show(pass, protected, seen, k, zuniqs, densities, n);
+                cells = show(pass, list, LhsRhsBoth::Left(a), k, zuniqs, densities, n);
                 left.taken = true;
             }
             Turn::Right(b) => {
-                let seen = LhsRhsBoth::Right(b);
-                cells = show(pass, protected, seen, k, zuniqs, densities, n);
+                cells = show(pass, list, LhsRhsBoth::Right(b), k, zuniqs, densities, n);
                 right.taken = true;
             }
             Turn::Both(a, b) => {
-                let seen = LhsRhsBoth::Both(a, b);
-                cells = show(pass, protected, seen, k, zuniqs, densities, n);
+                cells = show(pass, list, LhsRhsBoth::Both(a, b), k, zuniqs, densities, n);
                 left.taken = true;
                 right.taken = true;
             }
@@ -100,31 +97,31 @@ pub(crate) fn product_cells(
 // Shows a cell to the rule, and keeps what that answers.
 fn show(
     pass: Pass,
-    protected: &[u64],
+    list: &[u64],
     seen: LhsRhsBoth,
     k: f64,
     zuniqs: &mut [u64],
     densities: &mut [f64],
     n: usize,
 ) -> Cells
-    requires { ⌜ CanShow pass k n (sawOf seen) (now zuniqs) (now densities) × RisingList (now protected) ⌝ }
-    ensures { λ r. ⌜ CellsOutcome (now (protected .entry)) pass n (keptOf (productRule k) (shownAs asEntry (sawOf seen))) (now (zuniqs .entry)) (now (densities .entry)) r (now (zuniqs .exit)) (now (densities .exit)) ⌝ }
+    requires { ⌜ CanShow pass k n (sawOf seen) (now zuniqs) (now densities) × RisingList (now list) ⌝ }
+    ensures { λ r. ⌜ CellsOutcome (now (list .entry)) pass n (keptOf (productRule k) (shownAs asEntry (sawOf seen))) (now (zuniqs .entry)) (now (densities .entry)) r (now (zuniqs .exit)) (now (densities .exit)) ⌝ }
 {
-    keep(pass, protected, product(seen, k), zuniqs, densities, n)
+    keep(pass, list, product(seen, k), zuniqs, densities, n)
 }
 
 // Counts a cell behind n others, or merges it into n entries, if the rule keeps it and it is finite.
 // Answers the new number.
 fn keep(
     pass: Pass,
-    protected: &[u64],
+    list: &[u64],
     answer: Answer,
     zuniqs: &mut [u64],
     densities: &mut [f64],
     n: usize,
 ) -> Cells
-    requires { ⌜ CanKeepCells pass n answer (now zuniqs) (now densities) × RisingList (now protected) ⌝ }
-    ensures { λ r. ⌜ CellsOutcome (now (protected .entry)) pass n (cellsOf answer) (now (zuniqs .entry)) (now (densities .entry)) r (now (zuniqs .exit)) (now (densities .exit)) ⌝ }
+    requires { ⌜ CanKeepCells pass n answer (now zuniqs) (now densities) × RisingList (now list) ⌝ }
+    ensures { λ r. ⌜ CellsOutcome (now (list .entry)) pass n (cellsOf answer) (now (zuniqs .entry)) (now (densities .entry)) r (now (zuniqs .exit)) (now (densities .exit)) ⌝ }
 {
     let Answer::Kept(cell) = answer else {
         return Cells::Number(n);
@@ -147,7 +144,7 @@ fn keep(
             cell.value,
             depth_threshold,
             chi2_threshold,
-            protected,
+            list,
         )),
     }
 }

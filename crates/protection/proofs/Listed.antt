@@ -1,15 +1,14 @@
 -- What is in a list: a search in one that rises tells it. Assumes nothing.
 use mathlib.Core.Path.{_≡_, refl, sym, _∙_}
-use mathlib.Core.Bool.{Bool, true, false, _||_}
+use mathlib.Core.Bool.{Bool, true, false, _||_, false≢true}
 use mathlib.Core.List.{List, [], _∷_}
-use mathlib.Core.Logic.{_⊎_, inl, inr, ⊎-elim}
+use mathlib.Core.Logic.{⊎-elim}
 use Prim.Native.Nat.{ℕ, zero, suc, _-_, _≤_, _<_}
 use native.Mathlib.Omega.{arith}
 use lib.Dec.{eqb}
 use lib.ListN.{length, getD}
-use borrow.Author.Tests.{eq-eqb, ne-eqb, eqb-true}
+use borrow.Author.Tests.{eq-eqb, eqb-true}
 use Rattle.zuniq.proofs.Basics.{or-is-true, is-false, le-or-lt}
-use Rattle.zuniq.specs.Codec.{zuniq}
 use Rattle.mom.specs.Search.{LowerBound}
 use Rattle.protection.specs.Protected.{isListed, isProtected, RisingList}
 
@@ -39,36 +38,26 @@ nothing-protected K p h = refl
 
 -- ---- the search
 module _ {zs : List ℕ} {z place : ℕ} (rises : RisingList zs) (found : LowerBound zs z place) where
-  -- Behind the last place nothing is listed:
-  pub search-past : length zs ≤ place → isListed zs z ≡ false
-  search-past l = is-false (isListed zs z) (λ t. let p = place-of-listed zs z t in below (p .0) (p .1) (p .2))
-    where
-      below : (i : ℕ) → i < length zs → getD zs i 0 ≡ z → ⊥
-      below i m e =
-          let last = found .below (omega (arith, l, m)) in
-          ⊎-elim (λ k. let s : i ≡ place - 1 = omega (arith, k, m, l, found .within) in omega (arith, rw (← s) at last, e)) (λ k. omega (arith, rises i (place - 1) k (omega (arith, found .within, m, l)), last, e)) (le-or-lt (place - 1) i)
+  -- Before the place that it leads to everything is below the value,
+  not-before : (i : ℕ) → i < place → getD zs i 0 ≡ z → ⊥
+  not-before i k e =
+      let last = found .below (omega (arith, k)) in
+      ⊎-elim (λ q. let s : i ≡ place - 1 = omega (arith, k, q) in omega (arith, rw (← s) at last, e)) (λ q. omega (arith, rises i (place - 1) q (omega (arith, k, found .within)), last, e)) (le-or-lt (place - 1) i)
 
-  -- else it is there, if anywhere.
+  -- so that past the end nothing is listed;
+  pub search-past : length zs ≤ place → isListed zs z ≡ false
+  search-past l = is-false (isListed zs z) (λ t. let p = place-of-listed zs z t in not-before (p .0) (omega (arith, p .1, l)) (p .2))
+
+  -- else the value is there, if anywhere.
   pub search-at : place < length zs → eqb (getD zs place 0) z ≡ isListed zs z
   search-at l = go (eqb (getD zs place 0) z) refl
     where
-      elsewhere : (eqb (getD zs place 0) z ≡ true → ⊥) → (i : ℕ) → i < length zs → getD zs i 0 ≡ z → ⊥
-      elsewhere n i m e = ⊎-elim at-or-behind before (le-or-lt place i)
-        where
-          above : z ≤ getD zs place 0
-          above = found .above l
-
-          at-or-behind : place ≤ i → ⊥
-          at-or-behind k = ⊎-elim (λ q. let s : i ≡ place = omega (arith, k, q) in n (eq-eqb (getD zs place 0) z (rw s at e))) (λ q. omega (arith, rises place i q m, above, e)) (le-or-lt i place)
-
-          before : i < place → ⊥
-          before k =
-              let last = found .below (omega (arith, k)) in
-              ⊎-elim (λ q. let s : i ≡ place - 1 = omega (arith, k, q) in omega (arith, rw (← s) at last, e)) (λ q. omega (arith, rises i (place - 1) q (omega (arith, l, k)), last, e)) (le-or-lt (place - 1) i)
+      there : (i : ℕ) → i < length zs → getD zs i 0 ≡ z → i ≡ place
+      there i m e = ⊎-elim (λ k. ⊎-elim (λ q. omega (arith, k, q)) (λ q. absurd (omega (arith, rises place i q m, found .above l, e))) (le-or-lt i place)) (λ k. absurd (not-before i k e)) (le-or-lt place i)
 
       go : (b : Bool) → eqb (getD zs place 0) z ≡ b → b ≡ isListed zs z
       go true t = sym (listed-at zs z place l (eqb-true (getD zs place 0) z t))
-      go false t = sym (is-false (isListed zs z) (λ u. let p = place-of-listed zs z u in elsewhere (λ v. let n : _≡_ {A = Bool} false true = sym t ∙ v in absurd (false-not-true n)) (p .0) (p .1) (p .2)))
-        where
-          false-not-true : false ≡ true → ⊥
-          false-not-true e = let n : _≡_ {A = ℕ} 0 1 = cc in omega arith
+      go false t = sym (is-false (isListed zs z) (λ u.
+          let p = place-of-listed zs z u in
+          let e : getD zs place 0 ≡ z = rw (← there (p .0) (p .1) (p .2)) (p .2) in
+          false≢true (sym t ∙ eq-eqb (getD zs place 0) z e)))

@@ -1,19 +1,18 @@
 -- Row 15: what the loop of the check has passed, and that it refuses nothing exactly where the list is one of valid zuniqs that rises.
 -- Over any largest depth K. Assumes nothing.
-use mathlib.Core.Path.{_≡_, refl, sym, _∙_}
+use mathlib.Core.Path.{_≡_, refl}
 use mathlib.Core.Bool.{Bool, true, false, _||_, cond}
-use mathlib.Core.Logic.{_↔_, ⊎-elim}
+use mathlib.Core.Logic.{_↔_}
 use mathlib.Core.List.{List, [], _∷_}
 use mathlib.Core.Option.{Option, none, some, Option·some-ne-none}
-use Prim.Native.Nat.{ℕ, zero, suc, _+_, _*_, _-_, _^_, _≤_, _<_}
+use Prim.Native.Nat.{ℕ, zero, suc, _+_, _-_, _≤_, _<_}
 use native.Mathlib.Nat.{mul-pos}
 use native.Mathlib.Numerals.{add-one}
 use native.Mathlib.Omega.{arith}
-use lib.Dec.{leb}
 use lib.ListN.{length, getD, drop, drop-of-length-le}
 use lib.Seq.{drop-cons}
 use borrow.Author.Tests.{le-leb, lt-leb, leb-false}
-use Rattle.zuniq.proofs.Basics.{four-pow-pos, le-or-lt}
+use Rattle.zuniq.proofs.Basics.{four-pow-pos}
 use Rattle.zuniq.proofs.Codec.{cell, decodes}
 use Rattle.zuniq.specs.Codec.{zuniq, IsZuniqOf, decode}
 use Rattle.zuniq.specs.declared.Cell.{Cell}

@@ -1,6 +1,5 @@
 -- Note 7 of 02: protected parents, "a rising list of valid zuniqs; entries may lie inside one another". K is the largest depth of the
 -- zuniq type: "narrow building takes narrow zuniqs".
-use mathlib.Core.Path.{_≡_}
 use mathlib.Core.Bool.{Bool, true, false, _||_, cond}
 use mathlib.Core.List.{List, [], _∷_}
 use mathlib.Core.Option.{Option, none, some}

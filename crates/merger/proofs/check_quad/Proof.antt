@@ -1,10 +1,9 @@
 -- `check_quad` meets its contract: at each `return` the tests that led there say which row holds. Assumes nothing.
-use mathlib.Core.Path.{_≡_, refl, sym, ap, _∙_}
-use mathlib.Core.Option.{some, none}
+use mathlib.Core.Path.{_≡_, sym, _∙_}
+use mathlib.Core.Option.{none}
 use native.Mathlib.Omega.{arith}
 use borrow.Author.Needs.{needs}
 use borrow.Author.Tests.{lt-ltb, le-ltb, le-leb, lt-leb}
-use Rattle.refusal.specs.Checks.{checkOf}
 use Rattle.refusal.proofs.Checks.{check-passed, check-refused}
 use Rattle.protection.specs.Protected.{protectedRefusal}
 use Rattle.merger.specs.Merge.{quadRefusal}

@@ -21,12 +21,12 @@ use Rattle.pool.proofs.walk.pool_cells.Statement.{statement}
 use Rattle.pool.proofs.walk.pool_cells.Tie as tie
 
 abbrev Inv-loop : tie.InvT-loop
-Inv-loop left-zuniqs left-counts right-zuniqs right-counts pass protected zuniqs₀ counts₀ lefts₀ rights₀ left₀ right₀ n₀ zuniqs counts lefts rights left right n =
+Inv-loop left-zuniqs left-counts right-zuniqs right-counts pass list zuniqs₀ counts₀ lefts₀ rights₀ left₀ right₀ n₀ zuniqs counts lefts rights left right n =
     Walking splitCount poolRule asEntry blank zuniqIn left-zuniqs left-counts right-zuniqs right-counts
-    (Wrote pass (acceptCounts 29 protected) zuniqs₀ counts₀ n zuniqs counts) (sideOf left) (sideOf right) lefts rights
+    (Wrote pass (acceptCounts 29 list) zuniqs₀ counts₀ n zuniqs counts) (sideOf left) (sideOf right) lefts rights
 
 abbrev μ-loop : tie.MeasureT-loop
-μ-loop left-zuniqs left-counts right-zuniqs right-counts pass protected zuniqs₀ counts₀ lefts₀ rights₀ left₀ right₀ n₀ zuniqs counts lefts rights left right n =
+μ-loop left-zuniqs left-counts right-zuniqs right-counts pass list zuniqs₀ counts₀ lefts₀ rights₀ left₀ right₀ n₀ zuniqs counts lefts rights left right n =
     leftOver asEntry blank left-zuniqs left-counts right-zuniqs right-counts (sideOf left) (sideOf right) lefts rights
 
 -- ---- points of a turn, and what is known there
@@ -48,7 +48,7 @@ ReadyAt c =
     let o = loop c .loop in
     let a = start (loop c) .args in
     Ready splitCount poolRule asEntry blank zuniqIn (a .left-zuniqs .now) (a .left-counts .now) (a .right-zuniqs .now) (a .right-counts .now)
-    (Wrote (a .pass) (acceptCounts 29 (a .protected .now)) (a .zuniqs .now) (a .counts .now) (o .n) (o .zuniqs) (o .counts))
+    (Wrote (a .pass) (acceptCounts 29 (a .list .now)) (a .zuniqs .now) (a .counts .now) (o .n) (o .zuniqs) (o .counts))
     (sideOf (c .before .before .before .next .result)) (sideOf (c .next2 .result)) (o .lefts) (o .rights)
     (leftOver asEntry blank (a .left-zuniqs .now) (a .left-counts .now) (a .right-zuniqs .now) (a .right-counts .now) (sideOf (o .left)) (sideOf (o .right)) (o .lefts) (o .rights))
 
@@ -102,12 +102,12 @@ abbrev Keeps : Fetched → Dhzv → Type 0
 Keeps c d =
     let o = loop c .loop in
     let a = start (loop c) .args in
-    CanKeep (a .pass) (o .n) (zuniqIn d) (asEntry d) (o .zuniqs) (o .counts) × TotalFits (a .pass) (o .n) d (o .zuniqs) (o .counts) × RisingList (a .protected .now)
+    CanKeep (a .pass) (o .n) (zuniqIn d) (asEntry d) (o .zuniqs) (o .counts) × TotalFits (a .pass) (o .n) d (o .zuniqs) (o .counts) × RisingList (a .list .now)
 
 keeps : (c : Fetched) (s : LhsRhsBoth) → ShowsAt c s → (d : Dhzv) → (asEntry d ≡ pooled s) × (zuniqIn d ≡ zuniqShown zuniqIn (sawOf s)) → Keeps c d
 keeps c s t d e =
     let p = start (loop c) .pre in
-    let k = shown-keeps (p .0 .0) (p .0 .1) (p .0 .2) (ready c) s t (accepted-count-is-sum 29 (start (loop c) .args .protected .now)) (p .1) d (e .0) (e .1) in
+    let k = shown-keeps (p .0 .0) (p .0 .1) (p .0 .2) (ready c) s t (accepted-count-is-sum 29 (start (loop c) .args .list .now)) (p .1) d (e .0) (e .1) in
     (k .0, k .1, p .0 .3)
 
 -- a head is split

@@ -14,7 +14,7 @@ enum-told : tie.Need-enum-told
 enum-told c = search needs
 
 returns : tie.Need-returns
-returns c = let a = c .before .before .before .before .before .args in rw (c .enum-told .given .1) (no-cell-finite, outcome-none (acceptDensities (a .protected .now)) (a .pass) (a .n) (a .zuniqs .now) (a .densities .now) (rw (c .enum-told .given .1) at (c .before .before .before .before .before .pre .0)))
+returns c = let a = c .before .before .before .before .before .args in rw (c .enum-told .given .1) (no-cell-finite, outcome-none (acceptDensities (a .list .now)) (a .pass) (a .n) (a .zuniqs .now) (a .densities .now) (rw (c .enum-told .given .1) at (c .before .before .before .before .before .pre .0)))
 
 not-finite-requires : tie.Need-not-finite-requires
 not-finite-requires c κs = search needs

@@ -15,12 +15,12 @@ use Rattle.product.proofs.walk.product_cells.Statement.{statement}
 use Rattle.product.proofs.walk.product_cells.Tie as tie
 
 abbrev Inv-loop : tie.InvT-loop
-Inv-loop left-zuniqs left-densities right-zuniqs right-densities k pass protected zuniqs₀ densities₀ lefts₀ rights₀ left₀ right₀ cells₀ zuniqs densities lefts rights left right cells =
+Inv-loop left-zuniqs left-densities right-zuniqs right-densities k pass list zuniqs₀ densities₀ lefts₀ rights₀ left₀ right₀ cells₀ zuniqs densities lefts rights left right cells =
     Walking copyDensity (productRule k) asEntry blank zuniqIn left-zuniqs left-densities right-zuniqs right-densities
-    (WroteCells protected pass zuniqs₀ densities₀ cells zuniqs densities) (sideOf left) (sideOf right) lefts rights
+    (WroteCells list pass zuniqs₀ densities₀ cells zuniqs densities) (sideOf left) (sideOf right) lefts rights
 
 abbrev μ-loop : tie.MeasureT-loop
-μ-loop left-zuniqs left-densities right-zuniqs right-densities k pass protected zuniqs₀ densities₀ lefts₀ rights₀ left₀ right₀ cells₀ zuniqs densities lefts rights left right cells =
+μ-loop left-zuniqs left-densities right-zuniqs right-densities k pass list zuniqs₀ densities₀ lefts₀ rights₀ left₀ right₀ cells₀ zuniqs densities lefts rights left right cells =
     leftOver asEntry blank left-zuniqs left-densities right-zuniqs right-densities (sideOf left) (sideOf right) lefts rights
 
 -- ---- points of a turn, and what is known there
@@ -42,7 +42,7 @@ ReadyAt c x =
     let o = loop c .loop in
     let a = start (loop c) .args in
     Ready copyDensity (productRule (a .k)) asEntry blank zuniqIn (a .left-zuniqs .now) (a .left-densities .now) (a .right-zuniqs .now) (a .right-densities .now)
-    (WroteCells (a .protected .now) (a .pass) (a .zuniqs .now) (a .densities .now) x (o .zuniqs) (o .densities))
+    (WroteCells (a .list .now) (a .pass) (a .zuniqs .now) (a .densities .now) x (o .zuniqs) (o .densities))
     (sideOf (c .before .before .before .next .result)) (sideOf (c .next2 .result)) (o .lefts) (o .rights)
     (leftOver asEntry blank (a .left-zuniqs .now) (a .left-densities .now) (a .right-zuniqs .now) (a .right-densities .now) (sideOf (o .left)) (sideOf (o .right)) (o .lefts) (o .rights))
 
