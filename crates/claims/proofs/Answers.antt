@@ -37,10 +37,14 @@ use Rattle.build.specs.Add.{settingsRefusal, lengthsRefusal, mapRefusal, mapEnd
 use Rattle.build.specs.Counts.{totalOf, never, countsRefusal, Report, countCalls, countsAdded, addCounts}
 use Rattle.build.specs.Densities.{densityRefusal, densitiesRefusal, densityCalls, densitiesAdded, addDensities}
 use Rattle.build.specs.Told.{toldCounts, toldDensities}
-use Rattle.combine.specs.Rules.{definedPool, definedProduct}
+use Rattle.combine.specs.Overlay.{overlay}
+use Rattle.combine.specs.Rules.{splitCount, definedPool, definedProduct}
 use Rattle.combine.specs.Densities.{someNotFinite}
 use Rattle.combine.specs.Pool as Combining
 use Rattle.combine.specs.Pool.{Given, entries, resultDepth, poolKept, productKept, poolCounts, productDensities}
+use Rattle.combine.specs.Ask.{askRefusal, figuresOf, askedOr, askCounts, sameFigures, figuresRefusal, commitRefusal, commitCounts}
+use Rattle.combine.specs.Told.{toldAsked}
+use Rattle.combine.specs.declared.counts.Figures.{Figures}
 use Rattle.moving.specs.Moving.{deepRefusal, entriesRefusal, movingRefusal, movedOr, moved}
 use Rattle.moving.specs.Told.{toldMoved}
 use Rattle.coverage.specs.Ranges.{Range, rangesOf, rangesRefusal}
@@ -323,6 +327,32 @@ maps-rows l r next =
 abbrev pub unpaired : {A : Type 0} → Given A → Given A → ℕ → ℕ → Bool
 unpaired l r zs vs = not (eqb (length (l .zuniqs)) (length (l .values))) || (not (eqb (length (r .zuniqs)) (length (r .values))) || not (eqb zs vs))
 
+-- rows 1 to 3, 15, 4, 5 and 10 of a pool into buffers of these lengths
+module _ {X : Type 0} (P : List ℕ) (l r : Given ℕ) (M : ℕ) (T : Float) (zs vs : ℕ) (next : Told X) where
+  pool-input-rows : rowsOf (Combining.poolInputRefusal P l r M T zs vs) next
+      ≡ row 1 (ltb 29 (l .depth) || ltb 29 (r .depth))
+      (row 2 (ltb 29 M)
+      (row 3 (isNan T)
+      (rowsOf (protectedRefusal 29 P)
+      (row 4 (unpaired l r zs vs)
+      (rowAt 5 (faultyEntry (firstFault 29 (l .depth) (l .zuniqs)))
+      (rowAt 5 (faultyEntry (firstFault 29 (r .depth) (r .zuniqs)))
+      (row 10 (ltb 4294967295 (sumOf (l .values) + sumOf (r .values))) next)))))))
+  unfolding Combining.poolInputRefusal Combining.pairsRefusal Combining.sumsRefusal
+  pool-input-rows =
+      in-order (Combining.settingsRefusal (l .depth) (r .depth) M T) _ next
+      ∙ combining-rows (l .depth) (r .depth) M T _
+      ∙ ap (λ x. row 1 (ltb 29 (l .depth) || ltb 29 (r .depth)) (row 2 (ltb 29 M) (row 3 (isNan T) x)))
+      (in-order (protectedRefusal 29 P) _ next
+      ∙ ap (rowsOf (protectedRefusal 29 P))
+      (in-order (refusedIf (unpaired l r zs vs) Refusal.LengthMismatch) _ next
+      ∙ one-row (unpaired l r zs vs) _ _
+      ∙ ap (row 4 (unpaired l r zs vs))
+      (in-order (Combining.mapsRefusal l r) _ next
+      ∙ maps-rows l r _
+      ∙ ap (λ x. rowAt 5 (faultyEntry (firstFault 29 (l .depth) (l .zuniqs))) (rowAt 5 (faultyEntry (firstFault 29 (r .depth) (r .zuniqs))) x))
+      (one-row (ltb 4294967295 (sumOf (l .values) + sumOf (r .values))) _ next))))
+
 -- Pool: 1 to 3, 15, 4, 5, 10, 11.
 module _ (P : List ℕ) (l r : Given ℕ) (M : ℕ) (T : Float) (zs vs : List ℕ) where
   abbrev pub pooledMap : List (Entry ℕ)
@@ -339,25 +369,13 @@ module _ (P : List ℕ) (l r : Given ℕ) (M : ℕ) (T : Float) (zs vs : List �
       (row 10 (ltb 4294967295 (sumOf (l .values) + sumOf (r .values)))
       (row 11 (ltb (length zs) (length (poolKept l r)))
       (Told.answer (length pooledMap, totalOf pooledMap))))))))))
-  unfolding poolCounts Combining.poolOver Combining.poolRefusal Combining.poolInputRefusal Combining.pairsRefusal Combining.sumsRefusal Combining.placesRefusal
+  unfolding poolCounts Combining.poolOver Combining.poolRefusal Combining.placesRefusal
   pool-tells =
       let input = Combining.poolInputRefusal P l r M T (length zs) (length vs) in
-      let last : Told (ℕ × ℕ) = row 11 (ltb (length zs) (length (poolKept l r))) (Told.answer (length pooledMap, totalOf pooledMap)) in
       counts-told (countCalls 29 P (resultDepth l r) M T) (Combining.poolRefusal P l r M T (length zs) (length vs)) _ pooledMap
       ∙ in-order input _ _
       ∙ ap (rowsOf input) (one-row (ltb (length zs) (length (poolKept l r))) _ _)
-      ∙ in-order (Combining.settingsRefusal (l .depth) (r .depth) M T) _ last
-      ∙ combining-rows (l .depth) (r .depth) M T _
-      ∙ ap (λ x. row 1 (ltb 29 (l .depth) || ltb 29 (r .depth)) (row 2 (ltb 29 M) (row 3 (isNan T) x)))
-      (in-order (protectedRefusal 29 P) _ last
-      ∙ ap (rowsOf (protectedRefusal 29 P))
-      (in-order (refusedIf (unpaired l r (length zs) (length vs)) Refusal.LengthMismatch) _ last
-      ∙ one-row (unpaired l r (length zs) (length vs)) _ _
-      ∙ ap (row 4 (unpaired l r (length zs) (length vs)))
-      (in-order (Combining.mapsRefusal l r) _ last
-      ∙ maps-rows l r _
-      ∙ ap (λ x. rowAt 5 (faultyEntry (firstFault 29 (l .depth) (l .zuniqs))) (rowAt 5 (faultyEntry (firstFault 29 (r .depth) (r .zuniqs))) x))
-      (one-row (ltb 4294967295 (sumOf (l .values) + sumOf (r .values))) _ last))))
+      ∙ pool-input-rows P l r M T (length zs) (length vs) _
 
 -- Product: 1 to 3, 15, 4 to 6, 10, 11.
 module _ (P : List ℕ) (l r : Given Float) (M : ℕ) (T k : Float) (zs : List ℕ) (vs : List Float) where
@@ -542,3 +560,56 @@ module _ (m : Given Float) (ss es : List ℕ) (zs : List ℕ) (vs : List Float) 
       ∙ ap (row 4 unpairedToClip) (in-order (mapRefusal (firstFault 29 (m .depth) (m .zuniqs))) _ last
       ∙ map-row (firstFault 29 (m .depth) (m .zuniqs)) _
       ∙ ap (rowAt 5 (faultyEntry (firstFault 29 (m .depth) (m .zuniqs)))) (in-order (densityRefusal 0 (m .values)) _ last)))
+
+-- ---- note 8
+asked-told : (o : Option Refusal) (f : Figures) → toldAsked (askedOr o f) ≡ rowsOf o (Told.answer (f .cells, f .entries, f .total))
+asked-told none f = refl
+asked-told (some r) f = refl
+
+or-false : (b : Bool) → (b || false) ≡ b
+or-false true = refl
+or-false false = refl
+
+module _ (P : List ℕ) (l r : Given ℕ) (M : ℕ) (T : Float) where
+  abbrev pub askedPool : List (Entry ℕ)
+  askedPool = definedPool (acceptCounts 29 P M T) (resultDepth l r) (entries l) (entries r)
+
+  -- Asking: 1 to 3, 15, 4 of the maps alone, 5, 10.
+  pub ask-tells : toldAsked (askCounts P l r M T)
+      ≡ row 1 (ltb 29 (l .depth) || ltb 29 (r .depth))
+      (row 2 (ltb 29 M)
+      (row 3 (isNan T)
+      (rowsOf (protectedRefusal 29 P)
+      (row 4 (not (eqb (length (l .zuniqs)) (length (l .values))) || not (eqb (length (r .zuniqs)) (length (r .values))))
+      (rowAt 5 (faultyEntry (firstFault 29 (l .depth) (l .zuniqs)))
+      (rowAt 5 (faultyEntry (firstFault 29 (r .depth) (r .zuniqs)))
+      (row 10 (ltb 4294967295 (sumOf (l .values) + sumOf (r .values)))
+      (Told.answer (length (overlay splitCount (resultDepth l r) (entries l) (entries r)), length askedPool, totalOf askedPool)))))))))
+  unfolding askCounts figuresOf
+  ask-tells =
+      asked-told (askRefusal P l r M T) (figuresOf P l r M T)
+      ∙ pool-input-rows P l r M T 0 0 _
+      ∙ rw (or-false (not (eqb (length (r .zuniqs)) (length (r .values))))) refl
+
+  -- Committing: as a pool, with 16 "tried after 10".
+  module _ (f : Figures) (zs vs : List ℕ) where
+    pub commit-tells : toldCounts (commitCounts P l r M T f zs vs .0)
+        ≡ row 1 (ltb 29 (l .depth) || ltb 29 (r .depth))
+        (row 2 (ltb 29 M)
+        (row 3 (isNan T)
+        (rowsOf (protectedRefusal 29 P)
+        (row 4 (unpaired l r (length zs) (length vs))
+        (rowAt 5 (faultyEntry (firstFault 29 (l .depth) (l .zuniqs)))
+        (rowAt 5 (faultyEntry (firstFault 29 (r .depth) (r .zuniqs)))
+        (row 10 (ltb 4294967295 (sumOf (l .values) + sumOf (r .values)))
+        (row 16 (not (sameFigures f (figuresOf P l r M T)))
+        (row 11 (ltb (length zs) (length (poolKept l r)))
+        (Told.answer (length (reverse askedPool), totalOf (reverse askedPool))))))))))))
+    unfolding commitCounts Combining.poolOver commitRefusal figuresRefusal Combining.placesRefusal
+    commit-tells =
+        let input = Combining.poolInputRefusal P l r M T (length zs) (length vs) in
+        let differ = not (sameFigures f (figuresOf P l r M T)) in
+        counts-told (countCalls 29 P (resultDepth l r) M T) (commitRefusal P l r M T f (length zs) (length vs)) _ (reverse askedPool)
+        ∙ in-order input _ _
+        ∙ ap (rowsOf input) (in-order (refusedIf differ Refusal.FiguresDiffer) _ _ ∙ one-row differ _ _ ∙ ap (row 16 differ) (one-row (ltb (length zs) (length (poolKept l r))) _ _))
+        ∙ pool-input-rows P l r M T (length zs) (length vs) _

@@ -1,4 +1,4 @@
--- Demand 3 holds of every list of count add calls, and of pooling two maps so made. Assumes nothing.
+-- Demand 3 holds of every list of count add calls, and of pooling two maps so made, in one call or asked before done. Assumes nothing.
 use mathlib.Core.Path.{_≡_, refl, ap, ap₂, sym, _∙_, subst}
 use mathlib.Core.Bool.{true}
 use mathlib.Core.List.{List, [], _∷_, map, reverse, reverse-reverse}
@@ -37,10 +37,14 @@ use Rattle.build.proofs.BaseCells.{base-cells-map}
 use Rattle.combine.specs.Rules.{definedPool}
 use Rattle.combine.specs.Slices.{entriesOf}
 use Rattle.combine.specs.Pool.{entries, mapsRefusal, poolRefusal, poolOver, poolCounts}
+use Rattle.combine.specs.Ask.{askRefusal, figuresOf, askCounts, commitRefusal, commitCounts}
+use Rattle.combine.specs.declared.counts.Asked.{Asked}
+use Rattle.combine.specs.declared.counts.Figures.{Figures}
 use Rattle.combine.proofs.Kept.{pool-total}
 use Rattle.combine.proofs.Given.{entries-laid}
 use Rattle.combine.proofs.PoolCall.{pool-call-swapped}
-use Rattle.claims.specs.Demand3.{lastReport, heldAfter, calls, AddCalls, first, done, due, joinedList, mapOf, Claim, given, poolOf, PoolClaim}
+use Rattle.combine.proofs.AskCall.{answered-ask, commit-of-asked, pool-is-ask-then-commit, committed-is-asked, committed-passes, ask-swapped, commit-swapped}
+use Rattle.claims.specs.Demand3.{lastReport, heldAfter, calls, AddCalls, first, done, due, joinedList, mapOf, Claim, given, poolOf, PoolClaim, figuresDue, CommitClaim}
 
 pub mergers-sum : (K : ℕ) (P : List ℕ) (M : ℕ) (T : Float) → Sums (acceptCounts K P M T) (λ n. n)
 mergers-sum K P M T d h k0 k1 k2 k3 x q = accepted-count-is-sum K P M T d h k0 k1 k2 k3 x q
@@ -176,18 +180,19 @@ module _ (P : List ℕ) (a b : AddCalls) (M : ℕ) (T : Float) (zs vs : List ℕ
   unfolding mapsRefusal
   maps-pass c d = rw (given-passes c, given-passes d) refl
 
-  pool-is-due : poolRefusal P (given a) (given b) M T (length zs) (length vs) ≡ none → let p = poolOf P a b M T in
-      poolCounts P (given a) (given b) M T zs vs ≡ (CountsAdded.Added (length p) (totalOf (mapOf 29 a) + totalOf (mapOf 29 b)), zuniqBuffer 29 (length zs) p, valueBuffer 0 (length vs) p)
-  unfolding poolCounts poolOver
-  pool-is-due e =
+  -- The pool's total is the sum of the two totals.
+  pool-total-is : totalOf (poolOf P a b M T) ≡ totalOf (mapOf 29 a) + totalOf (mapOf 29 b)
+  pool-total-is =
       let D = max (a .D) (b .D) in
-      let p = poolOf P a b M T in
-      let t : totalOf p ≡ totalOf (mapOf 29 a) + totalOf (mapOf 29 b) =
-      total-reverse (λ n. n) (definedPool (acceptCounts 29 P M T) D (mapOf 29 a) (mapOf 29 b)) ∙ pool-total D (mapOf 29 a) (mapOf 29 b) (deeper a (omega arith)) (deeper b (omega arith)) (acceptCounts 29 P M T) (mergers-sum 29 P M T) in
-      rw (e, given-entries a, given-entries b, t) refl
+      total-reverse (λ n. n) (definedPool (acceptCounts 29 P M T) D (mapOf 29 a) (mapOf 29 b)) ∙ pool-total D (mapOf 29 a) (mapOf 29 b) (deeper a (omega arith)) (deeper b (omega arith)) (acceptCounts 29 P M T) (mergers-sum 29 P M T)
     where
       deeper : (c : AddCalls) → c .D ≤ max (a .D) (b .D) → Rises (max (a .D) (b .D)) 0 (nHash (max (a .D) (b .D))) (mapOf 29 c)
       deeper c u = rises-deeper-iff (c .D) (max (a .D) (b .D)) u (mapOf 29 c) .0 (defined-map-rises (acceptCounts 29 (c .parents) (c .M) (c .T)) (c .D) (joinedList 29 c)) .1
+
+  pool-is-due : poolRefusal P (given a) (given b) M T (length zs) (length vs) ≡ none → let p = poolOf P a b M T in
+      poolCounts P (given a) (given b) M T zs vs ≡ (CountsAdded.Added (length p) (totalOf (mapOf 29 a) + totalOf (mapOf 29 b)), zuniqBuffer 29 (length zs) p, valueBuffer 0 (length vs) p)
+  unfolding poolCounts poolOver
+  pool-is-due e = rw (e, given-entries a, given-entries b, pool-total-is) refl
 
   pool-refused : (x : Refusal) → poolRefusal P (given a) (given b) M T (length zs) (length vs) ≡ some x → poolCounts P (given a) (given b) M T zs vs ≡ (CountsAdded.Refused x, zs, vs)
   unfolding poolCounts poolOver
@@ -199,4 +204,41 @@ module _ (P : List ℕ) (a b : AddCalls) (M : ℕ) (T : Float) (zs vs : List ℕ
     pooled = pool-is-due;
     refused = pool-refused;
     swapped = pool-call-swapped P (given a) (given b) M T zs vs (maps-pass a b) (maps-pass b a);
+  }
+
+  -- ---- asking, and committing
+  -- The figures of the maps that go in are those of the defined maps.
+  figures-are-due : figuresOf P (given a) (given b) M T ≡ figuresDue P a b M T
+  unfolding figuresOf
+  figures-are-due =
+      let pool = definedPool (acceptCounts 29 P M T) (max (a .D) (b .D)) (mapOf 29 a) (mapOf 29 b) in
+      rw (given-entries a, given-entries b, ← length-reverse pool, ← total-reverse (λ n. n) pool, pool-total-is) refl
+
+  ask-is-due : askRefusal P (given a) (given b) M T ≡ none → askCounts P (given a) (given b) M T ≡ Asked.Answer (figuresDue P a b M T)
+  unfolding askCounts
+  ask-is-due e = rw e (ap Asked.Answer figures-are-due)
+
+  module _ (f : Figures) where
+    commit-has-due : commitRefusal P (given a) (given b) M T f (length zs) (length vs) ≡ none → f ≡ figuresDue P a b M T
+    commit-has-due e = answered-ask P (given a) (given b) M T f (committed-is-asked P (given a) (given b) M T f (length zs) (length vs) e) .1 ∙ figures-are-due
+
+    commit-is-due : commitRefusal P (given a) (given b) M T f (length zs) (length vs) ≡ none → let p = poolOf P a b M T in
+        commitCounts P (given a) (given b) M T f zs vs ≡ (CountsAdded.Added (length p) (totalOf (mapOf 29 a) + totalOf (mapOf 29 b)), zuniqBuffer 29 (length zs) p, valueBuffer 0 (length vs) p)
+    commit-is-due e =
+        commit-of-asked P (given a) (given b) M T f zs vs (committed-is-asked P (given a) (given b) M T f (length zs) (length vs) e)
+        ∙ pool-is-due (committed-passes P (given a) (given b) M T f (length zs) (length vs) e)
+
+    commit-refused : (x : Refusal) → commitRefusal P (given a) (given b) M T f (length zs) (length vs) ≡ some x → commitCounts P (given a) (given b) M T f zs vs ≡ (CountsAdded.Refused x, zs, vs)
+    unfolding commitCounts poolOver
+    commit-refused x e = rw e refl
+
+  pub commit-claim : CommitClaim P a b M T zs vs
+  commit-claim = record {
+    asked = ask-is-due;
+    as-one-call = pool-is-ask-then-commit P (given a) (given b) M T zs vs;
+    figures-are = commit-has-due;
+    pooled = commit-is-due;
+    refused = commit-refused;
+    asked-swapped = ask-swapped P (given a) (given b) M T (maps-pass a b) (maps-pass b a);
+    swapped = λ f. commit-swapped P (given a) (given b) M T f zs vs (maps-pass a b) (maps-pass b a);
   }

@@ -24,14 +24,19 @@ use Rattle.merger.specs.declared.CountMerger.{CountMerger}
 use Rattle.mom.specs.Map.{isYes, overlaps, faultAfter, faultOf, faultAt, atOr, faultFrom, firstFault}
 use Rattle.build.specs.Map.{Entry, entry, joined, listed, whole, tops, definedMap}
 use Rattle.build.specs.Buffers.{batch, laid, filled, readOnto, held}
-use Rattle.build.specs.Add.{settingsRefusal, lengthsRefusal, mapRefusal, spaceRefusal}
+use Rattle.build.specs.Add.{settingsRefusal, lengthsRefusal, mapRefusal, sumOf, spaceRefusal}
 use Rattle.build.specs.Calls.{addCall}
 use Rattle.build.specs.Counts.{countsRefusal, addCounts}
 use Rattle.build.specs.declared.counts.CountsAdded.{CountsAdded}
 use Rattle.build.specs.Densities.{densityRefusal}
 use Rattle.combine.specs.Overlay.{someEntry, fits, part, valueIn, overlayIn, overlay}
 use Rattle.combine.specs.Rules.{kept, combined, splitCount, definedPool}
-use Rattle.combine.specs.Pool.{Given, pairsRefusal, placesRefusal}
+use Rattle.combine.specs.Slices.{entriesOf}
+use Rattle.combine.specs.Pool as Combining
+use Rattle.combine.specs.Pool.{Given, pairsRefusal, placesRefusal, poolCounts}
+use Rattle.combine.specs.Ask.{figuresOf, askCounts, figuresRefusal, commitRefusal, commitCounts}
+use Rattle.combine.specs.declared.counts.Asked.{Asked}
+use Rattle.combine.specs.declared.counts.Figures.{Figures}
 use Rattle.moving.specs.Moving.{isDeeper, deepRefusal, entriesRefusal, movingRefusal, movedOr, moved}
 use Rattle.moving.specs.declared.Moved.{Moved}
 use Rattle.coverage.specs.Ranges.{Range, range, fromOf, toOf, rangesOf, inRanges, allInRanges, inCoverage, joinTouching, padded, rangesRefusal}
@@ -486,7 +491,89 @@ note7 =
     ∷ isMap (definedPool (acceptCounts 2 (16 ∷ []) 0 3·5) 1 (entry 1 1 3 ∷ []) (entry 0 0 10 ∷ [])) (1 ∷ 0 ∷ 3 ∷ 1 ∷ 1 ∷ 6 ∷ 1 ∷ 2 ∷ 2 ∷ 1 ∷ 3 ∷ 2 ∷ [])
     ∷ []
 
+-- ---- what a row of note 8 says
+-- asking answers this number of overlay cells, this number of entries and this total
+asks : Asked → ℕ → ℕ → ℕ → Bool
+asks (Asked.Answer f) cells entries total = eqb (f .cells) cells && (eqb (f .entries) entries && eqb (f .total) total)
+asks (Asked.Refused r) cells entries total = false
+
+-- it is refused by this number, with this place
+refusesAsk : ℕ → ℕ → Asked → Bool
+refusesAsk number place (Asked.Answer f) = false
+refusesAsk number place (Asked.Refused r) = eqb (numberOf r) number && eqb (placeOf r) place
+
+-- committing, or a pool, answers this number of entries and this total, and leaves these zuniqs and counts in the output
+pools : CountsAdded × List ℕ × List ℕ → ℕ → ℕ → List ℕ → List ℕ → Bool
+pools (CountsAdded.Added entries total, zs, vs) n sum xs ws = eqb entries n && (eqb total sum && (isList zs xs && isList vs ws))
+pools (CountsAdded.Refused r, zs, vs) n sum xs ws = false
+
+figures : ℕ → ℕ → ℕ → Figures
+figures cells entries total = record { cells = cells; entries = entries; total = total }
+
+-- a map of this depth, in zuniqs and counts
+counted : ℕ → List ℕ → List ℕ → Given ℕ
+counted depth zs vs = record { depth = depth; zuniqs = zs; values = vs }
+
+-- the maps of the scope's pool, (0,0) 10 and (1,1) 3
+ten : Given ℕ
+ten = counted 0 (z00 ∷ []) (10 ∷ [])
+
+three : Given ℕ
+three = counted 1 (z11 ∷ []) (3 ∷ [])
+
+-- the zuniqs of (1,2) and (1,3)
+z12 : ℕ
+z12 = 360287970189639680
+
+z13 : ℕ
+z13 = 504403158265495552
+
+-- ---- note 8 of 02: a pool that is asked for before it is done; M = 0 and no protected parents unless given
+pub note8 : List Bool
+unfolding asks refusesAsk pools figures counted ten three z12 z13 z00 z10 z11 refusesAdd isList times 2·0 3·5 isListed isProtected refusalFrom protectedRefusal nHash zuniq hashAt isZuniqAt cellUpTo decode overlapOf overlapTest isYes overlaps faultAfter faultOf faultAt atOr faultFrom firstFault mapRefusal laid filled joined listed whole tops definedMap someEntry fits part valueIn overlayIn overlay kept combined splitCount liesIn overlap entriesOf acceptCounts mergedCount mergeCounts mergeByChi chiOfCounts sumOf Combining.settingsRefusal pairsRefusal Combining.mapsRefusal Combining.sumsRefusal placesRefusal Combining.poolInputRefusal Combining.poolRefusal Combining.poolOver poolCounts figuresOf askCounts figuresRefusal commitRefusal commitCounts Ieee.add Ieee.sub Ieee.mul Ieee.div Ieee.ofInt Ieee.lt Ieee.eq isNan
+note8 =
+    -- "Ask answers the number of overlay cells, of entries after merging, and the total": at T = 2 the four stay, at T = 3.5 they merge
+    asks (askCounts [] ten three 0 2·0) 4 4 13
+    ∷ asks (askCounts [] ten three 0 3·5) 4 1 13
+    -- below M, and under a protected parent, they stay; in either order; of two empty maps there is nothing
+    ∷ asks (askCounts [] ten three 1 3·5) 4 4 13
+    ∷ asks (askCounts (z00 ∷ []) ten three 0 3·5) 4 4 13
+    ∷ asks (askCounts [] three ten 0 3·5) 4 1 13
+    ∷ asks (askCounts [] (counted 0 [] []) (counted 1 [] []) 0 3·5) 0 0 0
+    -- asking is refused as the pool: 1, 2, 3, 15, 4 of either map, 5 of the left map before the right, 10
+    ∷ refusesAsk 1 0 (askCounts (0 ∷ []) ten (counted 30 (0 ∷ []) []) 30 nan)
+    ∷ refusesAsk 2 0 (askCounts (0 ∷ []) ten (counted 1 (0 ∷ []) []) 30 nan)
+    ∷ refusesAsk 3 0 (askCounts (0 ∷ []) ten (counted 1 (0 ∷ []) []) 0 nan)
+    ∷ refusesAsk 15 0 (askCounts (0 ∷ []) ten (counted 1 (0 ∷ []) []) 0 3·5)
+    ∷ refusesAsk 4 0 (askCounts [] ten (counted 1 (0 ∷ []) []) 0 3·5)
+    ∷ refusesAsk 4 0 (askCounts [] (counted 0 [] (10 ∷ [])) three 0 3·5)
+    ∷ refusesAsk 5 1 (askCounts [] (counted 1 (z10 ∷ z00 ∷ []) (4294967295 ∷ 1 ∷ [])) (counted 1 (0 ∷ []) (3 ∷ [])) 0 3·5)
+    ∷ refusesAsk 5 0 (askCounts [] ten (counted 1 (0 ∷ []) (4294967295 ∷ [])) 0 3·5)
+    ∷ refusesAsk 10 0 (askCounts [] ten (counted 1 (z11 ∷ []) (4294967286 ∷ [])) 0 3·5)
+    -- "Commit takes those figures with the same inputs and pools": into as many places as there are cells, or more, which are 0
+    ∷ pools (commitCounts [] ten three 0 2·0 (figures 4 4 13) (times 4 9) (times 4 9)) 4 13 (z10 ∷ z11 ∷ z12 ∷ z13 ∷ []) (3 ∷ 6 ∷ 2 ∷ 2 ∷ [])
+    ∷ pools (commitCounts [] ten three 0 3·5 (figures 4 1 13) (times 5 9) (times 5 9)) 1 13 (z00 ∷ times 4 0) (13 ∷ times 4 0)
+    ∷ pools (commitCounts [] three ten 0 3·5 (figures 4 1 13) (times 4 9) (times 4 9)) 1 13 (z00 ∷ times 3 0) (13 ∷ times 3 0)
+    ∷ pools (commitCounts [] (counted 0 [] []) (counted 1 [] []) 0 3·5 (figures 0 0 0) (9 ∷ []) (9 ∷ [])) 0 0 (0 ∷ []) (0 ∷ [])
+    -- "The old single call stays"
+    ∷ pools (poolCounts [] ten three 0 3·5 (times 4 9) (times 4 9)) 1 13 (z00 ∷ times 3 0) (13 ∷ times 3 0)
+    -- "16, the figures are not those an ask would answer": each one more or less, those of another T, and those of another list
+    ∷ refusesAdd 16 0 (commitCounts [] ten three 0 3·5 (figures 3 1 13) (times 4 9) (times 4 9))
+    ∷ refusesAdd 16 0 (commitCounts [] ten three 0 3·5 (figures 5 1 13) (times 5 9) (times 5 9))
+    ∷ refusesAdd 16 0 (commitCounts [] ten three 0 3·5 (figures 4 0 13) (times 4 9) (times 4 9))
+    ∷ refusesAdd 16 0 (commitCounts [] ten three 0 3·5 (figures 4 2 13) (times 4 9) (times 4 9))
+    ∷ refusesAdd 16 0 (commitCounts [] ten three 0 3·5 (figures 4 1 12) (times 4 9) (times 4 9))
+    ∷ refusesAdd 16 0 (commitCounts [] ten three 0 3·5 (figures 4 1 14) (times 4 9) (times 4 9))
+    ∷ refusesAdd 16 0 (commitCounts [] ten three 0 2·0 (figures 4 1 13) (times 4 9) (times 4 9))
+    ∷ refusesAdd 16 0 (commitCounts (z00 ∷ []) ten three 0 3·5 (figures 4 1 13) (times 4 9) (times 4 9))
+    -- "tried after 10", and before 11; 4 asks for output buffers of one length, which an ask has none of
+    ∷ refusesAdd 10 0 (commitCounts [] ten (counted 1 (z11 ∷ []) (4294967286 ∷ [])) 0 3·5 (figures 4 1 13) (times 3 9) (times 3 9))
+    ∷ refusesAdd 16 0 (commitCounts [] ten three 0 3·5 (figures 3 1 13) (times 3 9) (times 3 9))
+    ∷ refusesAdd 11 0 (commitCounts [] ten three 0 3·5 (figures 4 1 13) (times 3 9) (times 3 9))
+    ∷ refusesAdd 4 0 (commitCounts [] ten three 0 3·5 (figures 3 1 13) (times 4 9) (times 3 9))
+    ∷ []
+
 -- ---- all of them
-pub starred-cases : every (section1 ++ (section2 ++ (section4 ++ (section5 ++ (note1 ++ (note2 ++ (note3 ++ (note4 ++ (note6 ++ note7))))))))) ≡ true
-unfolding every section1 section2 section4 section5 note1 note2 note3 note4 note6 note7
+pub starred-cases : every (section1 ++ (section2 ++ (section4 ++ (section5 ++ (note1 ++ (note2 ++ (note3 ++ (note4 ++ (note6 ++ (note7 ++ note8)))))))))) ≡ true
+unfolding every section1 section2 section4 section5 note1 note2 note3 note4 note6 note7 note8
 starred-cases = refl

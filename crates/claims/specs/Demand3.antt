@@ -1,6 +1,7 @@
 -- Demand 3 of the scope: what is claimed of every list of count add calls with one D, M and T, under one list of protected parents (note 7
--- of 02: "Batches joined are read under one list for all calls"), and of pooling two maps so made.
--- Said over the definitions that the contracts of the calls cite: `addCounts` is what `add_counts` does, `poolCounts` what `pool` does.
+-- of 02: "Batches joined are read under one list for all calls"), and of pooling two maps so made, in one call or asked before done (note 8).
+-- Said over the definitions that the contracts of the calls cite: `addCounts` is what `add_counts` does, `poolCounts` what `pool` does,
+-- `askCounts` and `commitCounts` what `ask` and `commit` do.
 -- K is the largest depth of the zuniq type: 29 for the calls of `build_counts`, 13 for those of `narrow_counts` (note 2 of 02).
 use mathlib.Core.Path.{_≡_}
 use mathlib.Core.List.{List, [], _∷_, map, reverse}
@@ -19,8 +20,12 @@ use Rattle.build.specs.Promises.{Any, Has, Covers, Ascends, totalUnder}
 use Rattle.build.specs.Calls.{Buffers, Batch, joinedCells, joinCalls, left}
 use Rattle.build.specs.Counts.{totalOf, countsAdded, countCalls, addCounts}
 use Rattle.build.specs.declared.counts.CountsAdded.{CountsAdded}
-use Rattle.combine.specs.Rules.{definedPool}
+use Rattle.combine.specs.Overlay.{overlay}
+use Rattle.combine.specs.Rules.{splitCount, definedPool}
 use Rattle.combine.specs.Pool.{Given, mapsRefusal, poolRefusal, poolCounts}
+use Rattle.combine.specs.Ask.{askRefusal, askCounts, commitRefusal, commitCounts, committed}
+use Rattle.combine.specs.declared.counts.Asked.{Asked}
+use Rattle.combine.specs.declared.counts.Figures.{Figures}
 
 -- the number of entries that the last accepted call answered, and "the total last reported (0 before any)": with m and n of those before
 unfoldable pub lastReport : ℕ → ℕ → List CountsAdded → ℕ × ℕ
@@ -112,3 +117,28 @@ pub record PoolClaim (P : List ℕ) (a b : AddCalls) (M : ℕ) (T : Float) (zs v
   pub refused : (x : Refusal) → poolRefusal P (given a) (given b) M T (length zs) (length vs) ≡ some x → poolCounts P (given a) (given b) M T zs vs ≡ (CountsAdded.Refused x, zs, vs)
   -- "Swapped, with all else handed in alike, they give the same answer and output, a refusal having the same number and place."
   pub swapped : poolCounts P (given b) (given a) M T zs vs ≡ poolCounts P (given a) (given b) M T zs vs
+
+-- ---- asking for such a pool, and committing it (note 8 of 02)
+-- "the number of overlay cells, of entries after merging, and the total", of the two defined maps
+abbrev pub figuresDue : List ℕ → AddCalls → AddCalls → ℕ → Float → Figures
+figuresDue P a b M T = record {
+  cells = length (overlay splitCount (max (a .D) (b .D)) (mapOf 29 a) (mapOf 29 b));
+  entries = length (poolOf P a b M T);
+  total = totalOf (mapOf 29 a) + totalOf (mapOf 29 b);
+}
+
+-- As of a pool: any M and T, one more list P, and buffers that held zs and vs.
+pub record CommitClaim (P : List ℕ) (a b : AddCalls) (M : ℕ) (T : Float) (zs vs : List ℕ) : Type 0 where
+  -- an ask, if it is not refused, answers those figures
+  pub asked : askRefusal P (given a) (given b) M T ≡ none → askCounts P (given a) (given b) M T ≡ Asked.Answer (figuresDue P a b M T)
+  -- "The old single call [..], where its output buffers are of equal length, equals an ask followed by its commit, in its refusals too."
+  pub as-one-call : length zs ≡ length vs → poolCounts P (given a) (given b) M T zs vs ≡ committed P (given a) (given b) M T zs vs (askCounts P (given a) (given b) M T)
+  -- a commit that is not refused was given those figures, and is the defined pool
+  pub figures-are : (f : Figures) → commitRefusal P (given a) (given b) M T f (length zs) (length vs) ≡ none → f ≡ figuresDue P a b M T
+  pub pooled : (f : Figures) → commitRefusal P (given a) (given b) M T f (length zs) (length vs) ≡ none → let p = poolOf P a b M T in
+      commitCounts P (given a) (given b) M T f zs vs ≡ (CountsAdded.Added (length p) (totalOf (mapOf 29 a) + totalOf (mapOf 29 b)), zuniqBuffer 29 (length zs) p, valueBuffer 0 (length vs) p)
+  -- a refusal leaves the output
+  pub refused : (f : Figures) (x : Refusal) → commitRefusal P (given a) (given b) M T f (length zs) (length vs) ≡ some x → commitCounts P (given a) (given b) M T f zs vs ≡ (CountsAdded.Refused x, zs, vs)
+  -- swapped they are the same
+  pub asked-swapped : askCounts P (given b) (given a) M T ≡ askCounts P (given a) (given b) M T
+  pub swapped : (f : Figures) → commitCounts P (given b) (given a) M T f zs vs ≡ commitCounts P (given a) (given b) M T f zs vs

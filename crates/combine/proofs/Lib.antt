@@ -18,3 +18,4 @@ pub mod PoolCall
 pub mod Checks
 pub mod DensityCells
 pub mod ProductCall
+pub mod AskCall

@@ -46,6 +46,10 @@ pool-input-passes P l r M T places values e =
     let c = or-else-none (mapsRefusal l r) _ (b .1) in
     (passed l r M T places values (a .0) (b .0) (c .0), ltb-false _ _ (refused-if-none _ _ (c .1)), accepted-iff-rising-list 29 P .0 (p .0) .rising)
 
+-- The totals of two maps that pass are the sums of their counts.
+pub passed-total : (l r : Given ℕ) (places values : ℕ) → Passed l r places values → totalOf (entries l) + totalOf (entries r) ≡ sumOf (l .values) + sumOf (r .values)
+passed-total l r places values p = ap₂ _+_ (entries-total (l .depth) (l .zuniqs) (l .values) (p .left-paired) (p .left-valid)) (entries-total (r .depth) (r .zuniqs) (r .values) (p .right-paired) (p .right-valid))
+
 -- What a walk that merges leaves, with every place after it cleared, told by the definition over all depths that there are.
 module _ (P : List ℕ) (l r : List (Entry ℕ)) (p : Rises 29 0 (nHash 29) l) (q : Rises 29 0 (nHash 29) r) (M : ℕ) (T : Float) (zs vs : List ℕ) where
   pub pool-left : (n sum : ℕ) (zs₁ vs₁ zs₂ vs₂ : List ℕ) → Added (acceptCounts 29 P M T) 29 0 (kept poolRule (overlay splitCount 29 l r)) zs vs n zs₁ vs₁
@@ -62,25 +66,21 @@ module _ (P : List ℕ) (l r : List (Entry ℕ)) (p : Rises 29 0 (nHash 29) l) (
       ap₂ (λ (k t : ℕ). (CountsAdded.Added k t, zs₂, vs₂)) k t
       ∙ ap (λ (u : Buffers ℕ × Answer Refusal Report). (countsAdded (u .1), u .0 .zuniqs, u .0 .values)) (map-left (countCalls 29 P 29 M T) 0 (record { number = 0; zuniqs = zs; values = vs }) (reverse pool) n zs₁ vs₁ zs₂ vs₂ (w .stands) is lz lv ez ev)
 
--- The same after the cells have been counted, which leaves the buffers as they were: there is too little space, or the pool is made.
-module _ (P : List ℕ) (l r : List (Entry ℕ)) (M : ℕ) (T : Float) (zs vs zs′ vs′ : List ℕ) (cells : ℕ) where
+-- The same where the cells are counted: there is too little space, or the pool is made.
+module _ (P : List ℕ) (l r : List (Entry ℕ)) (M : ℕ) (T : Float) (zs vs : List ℕ) (cells : ℕ) (c : cells ≡ length (kept poolRule (overlay splitCount 29 l r))) where
   abbrev walked : List (Entry ℕ)
   walked = kept poolRule (overlay splitCount 29 l r)
 
-  abbrev Counted : Type 0
-  Counted = (cells ≡ 0 + length walked) × (zs′ ≡ zs) × (vs′ ≡ vs)
-
-  pub pool-no-space : Counted → length zs′ < cells → (CountsAdded.Refused Refusal.NoSpace, zs′, vs′) ≡ poolOver P 29 (placesRefusal (length zs) (length walked)) l r M T zs vs
+  pub pool-no-space : length zs < cells → (CountsAdded.Refused Refusal.NoSpace, zs, vs) ≡ poolOver P 29 (placesRefusal (length zs) (length walked)) l r M T zs vs
   unfolding poolOver placesRefusal
-  pool-no-space c u = rw (lt-ltb (length zs) (length walked) (omega (arith, u, c .0, ap length (c .1)))) (λ i. (CountsAdded.Refused Refusal.NoSpace, c .1 i, c .2 i))
+  pool-no-space u = rw (lt-ltb (length zs) (length walked) (omega (arith, u, c))) refl
 
-  pub pool-made : Rises 29 0 (nHash 29) l → Rises 29 0 (nHash 29) r → Counted → cells ≤ length zs′ → (n sum : ℕ) (zs₁ vs₁ zs₂ vs₂ : List ℕ) → Added (acceptCounts 29 P M T) 29 0 walked zs′ vs′ n zs₁ vs₁
-      → length zs₁ ≡ length zs′ → length vs₁ ≡ length vs′ → zs₂ ≡ take n zs₁ ++ replicate (length zs₁ - n) 0 → vs₂ ≡ take n vs₁ ++ replicate (length vs₁ - n) 0
+  pub pool-made : Rises 29 0 (nHash 29) l → Rises 29 0 (nHash 29) r → cells ≤ length zs → (n sum : ℕ) (zs₁ vs₁ zs₂ vs₂ : List ℕ) → Added (acceptCounts 29 P M T) 29 0 walked zs vs n zs₁ vs₁
+      → length zs₁ ≡ length zs → length vs₁ ≡ length vs → zs₂ ≡ take n zs₁ ++ replicate (length zs₁ - n) 0 → vs₂ ≡ take n vs₁ ++ replicate (length vs₁ - n) 0
       → totalOf l + totalOf r ≡ sum → (CountsAdded.Added n sum, zs₂, vs₂) ≡ poolOver P 29 (placesRefusal (length zs) (length walked)) l r M T zs vs
   unfolding placesRefusal
-  pool-made p q c u n sum zs₁ vs₁ zs₂ vs₂ w lz lv ez ev es =
-      let a : Added (acceptCounts 29 P M T) 29 0 walked zs vs n zs₁ vs₁ = rw (c .1, c .2) at w in
-      rw (le-ltb (length zs) (length walked) (omega (arith, u, c .0, ap length (c .1)))) (pool-left P l r p q M T zs vs n sum zs₁ vs₁ zs₂ vs₂ a (lz ∙ ap length (c .1)) (lv ∙ ap length (c .2)) ez ev es)
+  pool-made p q u n sum zs₁ vs₁ zs₂ vs₂ w lz lv ez ev es =
+      rw (le-ltb (length zs) (length walked) (omega (arith, u, c))) (pool-left P l r p q M T zs vs n sum zs₁ vs₁ zs₂ vs₂ w lz lv ez ev es)
 
 -- ---- the maps swapped
 or-swap : (a b c : Bool) → (a || (b || c)) ≡ (b || (a || c))
@@ -95,17 +95,21 @@ or-swap-two false true = refl
 or-swap-two false false = refl
 
 module _ (P : List ℕ) (l r : Given ℕ) (M : ℕ) (T : Float) where
-  pool-cells-swapped : poolKept r l ≡ poolKept l r
+  pub pool-cells-swapped : poolKept r l ≡ poolKept l r
   pool-cells-swapped =
       let c : resultDepth r l ≡ resultDepth l r = omega arith in
       ap (λ (K : ℕ). kept poolRule (overlay splitCount K (entries r) (entries l))) c
       ∙ ap (kept poolRule) (overlay-swap splitCount (entries l) (entries r) (resultDepth l r)) ∙ kept-swapped poolRule pool-rule-swapped (overlay splitCount (resultDepth l r) (entries l) (entries r))
 
-  pool-refusal-swapped : (places values : ℕ) → mapsRefusal l r ≡ none → mapsRefusal r l ≡ none → poolRefusal P r l M T places values ≡ poolRefusal P l r M T places values
-  unfolding poolRefusal poolInputRefusal settingsRefusal pairsRefusal sumsRefusal
-  pool-refusal-swapped places values a b =
+  pub pool-input-swapped : (places values : ℕ) → mapsRefusal l r ≡ none → mapsRefusal r l ≡ none → poolInputRefusal P r l M T places values ≡ poolInputRefusal P l r M T places values
+  unfolding poolInputRefusal settingsRefusal pairsRefusal sumsRefusal
+  pool-input-swapped places values a b =
       let s : sumOf (r .values) + sumOf (l .values) ≡ sumOf (l .values) + sumOf (r .values) = omega arith in
-      rw (a, b, or-swap-two (ltb 29 (r .depth)) (ltb 29 (l .depth)), or-swap (not (eqb (length (r .zuniqs)) (length (r .values)))) (not (eqb (length (l .zuniqs)) (length (l .values)))) (not (eqb places values)), s, pool-cells-swapped) refl
+      rw (a, b, or-swap-two (ltb 29 (r .depth)) (ltb 29 (l .depth)), or-swap (not (eqb (length (r .zuniqs)) (length (r .values)))) (not (eqb (length (l .zuniqs)) (length (l .values)))) (not (eqb places values)), s) refl
+
+  pool-refusal-swapped : (places values : ℕ) → mapsRefusal l r ≡ none → mapsRefusal r l ≡ none → poolRefusal P r l M T places values ≡ poolRefusal P l r M T places values
+  unfolding poolRefusal
+  pool-refusal-swapped places values a b = rw (pool-input-swapped places values a b, pool-cells-swapped) refl
 
   -- "Swapped, with all else handed in alike, they give the same answer and output": of two maps that the check passes.
   pub pool-call-swapped : (zs vs : List ℕ) → mapsRefusal l r ≡ none → mapsRefusal r l ≡ none → poolCounts P r l M T zs vs ≡ poolCounts P l r M T zs vs
@@ -119,9 +123,6 @@ module _ (P : List ℕ) (l r : Given ℕ) (M : ℕ) (T : Float) (zs vs : List �
   pub pool-refused : (x : Refusal) → poolInputRefusal P l r M T (length zs) (length vs) ≡ some x → (CountsAdded.Refused x, zs, vs) ≡ poolCounts P l r M T zs vs
   unfolding poolCounts poolRefusal poolOver
   pool-refused x e = rw e refl
-
-  pub passed-total : Passed l r (length zs) (length vs) → totalOf (entries l) + totalOf (entries r) ≡ sumOf (l .values) + sumOf (r .values)
-  passed-total p = ap₂ _+_ (entries-total (l .depth) (l .zuniqs) (l .values) (p .left-paired) (p .left-valid)) (entries-total (r .depth) (r .zuniqs) (r .values) (p .right-paired) (p .right-valid))
 
   pub pool-done : poolInputRefusal P l r M T (length zs) (length vs) ≡ none → (t : CountsAdded × List ℕ × List ℕ)
       → t ≡ poolOver P 29 (placesRefusal (length zs) (length (kept poolRule (overlay splitCount 29 (entries l) (entries r))))) (entries l) (entries r) M T zs vs → t ≡ poolCounts P l r M T zs vs

@@ -7,3 +7,5 @@ pub mod Slices
 pub mod Counts
 pub mod Densities
 pub mod Pool
+pub mod Ask
+pub mod Told

@@ -1,4 +1,5 @@
-// What a walk of two count maps is made of: cells, sides and turns.
+// What a walk of two count maps is made of: cells, sides and turns. And what asking for a pool answers.
+use refusal::Refusal;
 
 // A cell with its zuniq and its count.
 pub struct Dhzv {
@@ -41,4 +42,20 @@ pub enum Turn {
     OpenLeft(Dhzv),
     OpenRight(Dhzv),
     Stop,
+}
+
+// What a pool costs and comes to.
+pub struct Figures {
+    // Cells of the overlay: the places that the output needs.
+    pub cells: usize,
+    // Entries after merging them.
+    pub entries: usize,
+    // The sum of their counts.
+    pub total: u32,
+}
+
+// What asking answers.
+pub enum Asked {
+    Answer(Figures),
+    Refused(Refusal),
 }

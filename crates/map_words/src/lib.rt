@@ -1,9 +1,10 @@
 // The words in which the C functions answer of maps, rows and densities. `words` tells what a word is.
 ghost use mathlib.Core.Path.{_≡_};
-ghost use Rattle.words.specs.Words.{faultKind, mapCheckWord, containingWord, runWord, countsWord, densitiesWord, movedWord, coveredWord, clippedWord, rowsWord, countDensityWord, patternDensityWord, densityPatternWord};
+ghost use Rattle.words.specs.Words.{faultKind, mapCheckWord, containingWord, runWord, countsWord, densitiesWord, askedWord, movedWord, coveredWord, clippedWord, rowsWord, countDensityWord, patternDensityWord, densityPatternWord};
 use build::counts::CountsAdded;
 use build::densities::DensitiesAdded;
 use clip::Clipped;
+use combine::counts::Asked;
 use coverage::Covered;
 use density::CountDensity;
 use density::DensityPattern;
@@ -97,6 +98,21 @@ pub fn densities_word(answer: DensitiesAdded) -> u64
     match answer {
         DensitiesAdded::Added { entries } => word(ACCEPTED, entries as u64),
         DensitiesAdded::Refused(refusal) => refused(refusal),
+    }
+}
+
+// The cells, the entries and the total of a pool that was asked for.
+pub fn asked_word(answer: Asked, cells: &mut usize, entries: &mut usize, total: &mut u32) -> u64
+    ensures { λ r. ⌜ (r, now (cells .exit), now (entries .exit), now (total .exit)) ≡ askedWord answer (now (cells .entry)) (now (entries .entry)) (now (total .entry)) ⌝ }
+{
+    match answer {
+        Asked::Answer(figures) => {
+            *cells = figures.cells;
+            *entries = figures.entries;
+            *total = figures.total;
+            word(ACCEPTED, 0)
+        }
+        Asked::Refused(refusal) => refused(refusal),
     }
 }
 

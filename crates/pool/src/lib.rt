@@ -3,11 +3,17 @@
 //
 // A call looks at everything before it writes anything: one pass over the protected parents and one
 // over each map, then the overlay is walked once to count its cells and once more to merge them.
+//
+// `ask` is built on the parts: what is refused before the overlay is walked, what the pool comes to, and
+// the pool of maps whose cells are counted.
 ghost use mathlib.Core.Path.{_≡_};
+ghost use mathlib.Core.List.{[]};
 ghost use Prim.Native.Nat.{_+_, _≤_};
 ghost use lib.ListN.{length};
 ghost use Rattle.protection.specs.Protected.{RisingList};
+ghost use Rattle.merger.specs.Merge.{acceptCounts};
 ghost use Rattle.build.specs.Add.{sumOf};
+ghost use Rattle.build.specs.Stack.{run};
 ghost use Rattle.build.specs.Counts.{totalOf, totalOr};
 ghost use Rattle.combine.specs.Slices.{entriesOf, Holds};
 ghost use Rattle.combine.specs.Counts.{poolCells};
@@ -21,10 +27,13 @@ use combine::Pass;
 use combine::check_maps;
 use combine::check_pairs;
 use combine::check_settings;
+use combine::counts::Figures;
 use protection::check_protected;
 use refusal::Check;
 use refusal::Refusal;
+use tally::PLACES;
 use walk::pool_cells;
+use walk::tally_cells;
 
 mod walk;
 
@@ -101,6 +110,38 @@ fn pool_checked(
         zuniqs,
         counts,
     );
+    pool_counted(
+        left_zuniqs,
+        left_counts,
+        right_zuniqs,
+        right_counts,
+        depth_threshold,
+        chi2_threshold,
+        protected,
+        cells,
+        total,
+        zuniqs,
+        counts,
+    )
+}
+
+// Pools two maps that have passed and have so many cells in their overlay, if there is space for them.
+pub fn pool_counted(
+    left_zuniqs: &[u64],
+    left_counts: &[u32],
+    right_zuniqs: &[u64],
+    right_counts: &[u32],
+    depth_threshold: u8,
+    chi2_threshold: f64,
+    protected: &[u64],
+    cells: usize,
+    total: u32,
+    zuniqs: &mut [u64],
+    counts: &mut [u32],
+) -> CountsAdded
+    requires { ⌜ Holds (now «left_zuniqs») (now «left_counts») × Holds (now «right_zuniqs») (now «right_counts») × (totalOf (entriesOf (now «left_zuniqs») (now «left_counts»)) + totalOf (entriesOf (now «right_zuniqs») (now «right_counts»)) ≡ total) × (length (now zuniqs) ≡ length (now counts)) × RisingList (now protected) × (cells ≡ length (poolCells (now «left_zuniqs») (now «left_counts») (now «right_zuniqs») (now «right_counts»))) ⌝ }
+    ensures { λ r. ⌜ (r, now (zuniqs .exit), now (counts .exit)) ≡ poolOver (now (protected .entry)) 29 (placesRefusal (length (now (zuniqs .entry))) (length (poolCells (now («left_zuniqs» .entry)) (now («left_counts» .entry)) (now («right_zuniqs» .entry)) (now («right_counts» .entry))))) (entriesOf (now («left_zuniqs» .entry)) (now («left_counts» .entry))) (entriesOf (now («right_zuniqs» .entry)) (now («right_counts» .entry))) «depth_threshold» «chi2_threshold» (now (zuniqs .entry)) (now (counts .entry)) ⌝ }
+{
     if zuniqs.len() < cells {
         return CountsAdded::Refused(Refusal::NoSpace);
     }
@@ -123,9 +164,44 @@ fn pool_checked(
     CountsAdded::Added { entries, total }
 }
 
+// What the pool of two maps that have passed comes to, found in fixed memory.
+pub fn pool_figures(
+    left_zuniqs: &[u64],
+    left_counts: &[u32],
+    right_zuniqs: &[u64],
+    right_counts: &[u32],
+    depth_threshold: u8,
+    chi2_threshold: f64,
+    protected: &[u64],
+    total: u32,
+) -> Figures
+    requires { ⌜ Holds (now «left_zuniqs») (now «left_counts») × Holds (now «right_zuniqs») (now «right_counts») × (totalOf (entriesOf (now «left_zuniqs») (now «left_counts»)) + totalOf (entriesOf (now «right_zuniqs») (now «right_counts»)) ≡ total) × RisingList (now protected) ⌝ }
+    ensures { λ r. ⌜ r ≡ record { cells = length (poolCells (now («left_zuniqs» .entry)) (now («left_counts» .entry)) (now («right_zuniqs» .entry)) (now («right_counts» .entry))); entries = length (run (acceptCounts 29 (now (protected .entry)) «depth_threshold» «chi2_threshold») [] (poolCells (now («left_zuniqs» .entry)) (now («left_counts» .entry)) (now («right_zuniqs» .entry)) (now («right_counts» .entry)))); total = total } ⌝ }
+{
+    let mut zuniqs = [0u64; PLACES];
+    let mut counts = [0u32; PLACES];
+    let tallied = tally_cells(
+        left_zuniqs,
+        left_counts,
+        right_zuniqs,
+        right_counts,
+        depth_threshold,
+        chi2_threshold,
+        protected,
+        &mut zuniqs,
+        &mut counts,
+    );
+    let entries = tallied.settled + tallied.live;
+    Figures {
+        cells: tallied.cells,
+        entries,
+        total,
+    }
+}
+
 // All that can be refused before the overlay is walked, in the order of the table; the total of both
 // maps where nothing is.
-fn check(
+pub fn check(
     left_depth: u8,
     left_zuniqs: &[u64],
     left_counts: &[u32],

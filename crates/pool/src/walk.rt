@@ -7,10 +7,13 @@
 ghost use mathlib.Core.Path.{_≡_};
 ghost use mathlib.Core.List.{[], _∷_};
 ghost use mathlib.Core.Option.{some};
-ghost use Prim.Native.Nat.{_+_, _-_, _≤_, _<_};
+ghost use Prim.Native.Nat.{_+_, _-_, _^_, _≤_, _<_};
+ghost use lib.ListN.{length};
 ghost use Rattle.protection.specs.Protected.{RisingList};
 ghost use Rattle.merger.specs.Merge.{acceptCounts};
+ghost use Rattle.build.specs.Stack.{run};
 ghost use Rattle.build.specs.Counts.{totalOf};
+ghost use Rattle.tally.specs.Running.{CanCount, Counted};
 ghost use Rattle.combine.specs.Rules.{splitCount};
 ghost use Rattle.combine.specs.Heads.{sideStart, opened, Shallow, Turned, zuniqShown, Good, ChildOf, EntryAt, Advanced};
 ghost use Rattle.combine.specs.Slices.{entriesOf, Holds, Outcome, Room, CanKeep};
@@ -22,6 +25,9 @@ use combine::counts::Head;
 use combine::counts::LhsRhsBoth;
 use combine::counts::Side;
 use combine::counts::Turn;
+use tally::NO_CELLS;
+use tally::Running;
+use tally::count;
 use zuniq::Decoded;
 use zuniq::Zuniq64;
 
@@ -121,6 +127,92 @@ fn keep(
             list,
         ),
     }
+}
+
+// Walks the same overlay to find how many entries the pool has under M and T without making it: some
+// are settled and some live, the latter in two buffers that have a place for one more than there can
+// be. A loop of its own, so that those who only pool don't carry these figures through theirs.
+pub(crate) fn tally_cells(
+    left_zuniqs: &[u64],
+    left_counts: &[u32],
+    right_zuniqs: &[u64],
+    right_counts: &[u32],
+    m: u8,
+    t: f64,
+    list: &[u64],
+    zuniqs: &mut [u64],
+    counts: &mut [u32],
+) -> Running
+    requires { ⌜ Holds (now «left_zuniqs») (now «left_counts») × Holds (now «right_zuniqs») (now «right_counts») × (totalOf (entriesOf (now «left_zuniqs») (now «left_counts»)) + totalOf (entriesOf (now «right_zuniqs») (now «right_counts»)) ≤ 4294967295) × RisingList (now list) ⌝ }
+    requires { ⌜ (87 < length (now zuniqs)) × (87 < length (now counts)) ⌝ }
+    ensures { λ r. ⌜ (r .cells ≡ length (poolCells (now («left_zuniqs» .entry)) (now («left_counts» .entry)) (now («right_zuniqs» .entry)) (now («right_counts» .entry)))) × (r .settled + r .live ≡ length (run (acceptCounts 29 (now (list .entry)) m t) [] (poolCells (now («left_zuniqs» .entry)) (now («left_counts» .entry)) (now («right_zuniqs» .entry)) (now («right_counts» .entry))))) × (r .settled + r .live < 2 ^ 64) ⌝ }
+{
+    let mut lefts = [BLANK; 87];
+    let mut rights = [BLANK; 87];
+    let mut left = start();
+    let mut right = start();
+    let mut n = NO_CELLS;
+    loop {
+        left = next(left, lefts[top(left)], left_zuniqs, left_counts);
+        right = next(right, rights[top(right)], right_zuniqs, right_counts);
+        match turn_of(left, right) {
+            Turn::Stop => return n,
+            Turn::Left(a) => {
+                n = tally(n, pool(LhsRhsBoth::Left(a)), m, t, list, zuniqs, counts);
+                left.taken = true;
+            }
+            Turn::Right(b) => {
+                n = tally(n, pool(LhsRhsBoth::Right(b)), m, t, list, zuniqs, counts);
+                right.taken = true;
+            }
+            Turn::Both(a, b) => {
+                n = tally(n, pool(LhsRhsBoth::Both(a, b)), m, t, list, zuniqs, counts);
+                left.taken = true;
+                right.taken = true;
+            }
+            Turn::OpenLeft(outer) => {
+                let free = left.pending;
+                lefts[free] = child(outer, 3);
+                lefts[free + 1] = child(outer, 2);
+                lefts[free + 2] = child(outer, 1);
+                left = open(left, child(outer, 0));
+            }
+            Turn::OpenRight(outer) => {
+                let free = right.pending;
+                rights[free] = child(outer, 3);
+                rights[free + 1] = child(outer, 2);
+                rights[free + 2] = child(outer, 1);
+                right = open(right, child(outer, 0));
+            }
+        }
+    }
+}
+
+// Counts a cell behind those so far.
+fn tally(
+    n: Running,
+    cell: Dhzv,
+    m: u8,
+    t: f64,
+    list: &[u64],
+    zuniqs: &mut [u64],
+    counts: &mut [u32],
+) -> Running
+    requires { ⌜ CanCount n (zuniqIn cell) (asEntry cell) (now zuniqs) (now counts) × RisingList (now list) ⌝ }
+    ensures { λ r. ⌜ Counted (acceptCounts 29 (now (list .entry)) m t) n (asEntry cell) (now (zuniqs .entry)) (now (counts .entry)) r (now (zuniqs .exit)) (now (counts .exit)) ⌝ }
+{
+    count(
+        n,
+        cell.depth,
+        cell.hash,
+        cell.zuniq,
+        cell.value,
+        m,
+        t,
+        list,
+        zuniqs,
+        counts,
+    )
 }
 
 // The rule of the pool: alone kept, both summed.

@@ -38,6 +38,8 @@ pub enum Refusal {
     CountOverflow(usize),
     // The product of an overlay cell is not finite.
     ProductNotFinite,
+    // The figures handed in are not those that an ask would answer.
+    FiguresDiffer,
     // The output has too few places.
     NoSpace,
     // This query is not a valid zuniq or not at the depth asked for.
@@ -71,6 +73,7 @@ impl Refusal {
             Refusal::InvalidDensity(_) => 9,
             Refusal::CountOverflow(_) => 10,
             Refusal::ProductNotFinite => 10,
+            Refusal::FiguresDiffer => 16,
             Refusal::NoSpace => 11,
             Refusal::InvalidQuery(_) => 12,
         }
@@ -96,6 +99,7 @@ impl Refusal {
             Refusal::InvalidDensity(cell) => cell,
             Refusal::CountOverflow(cell) => cell,
             Refusal::ProductNotFinite => 0,
+            Refusal::FiguresDiffer => 0,
             Refusal::NoSpace => 0,
             Refusal::InvalidQuery(query) => query,
         }

@@ -2,4 +2,4 @@
 use Prim.Native.Nat.{ℕ}
 
 abbrev pub kinds : ℕ
-kinds = 35
+kinds = 37

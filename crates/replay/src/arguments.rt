@@ -8,7 +8,7 @@ use crate::floats::float_of;
 pub const MOST_ITEMS: usize = 48;
 
 // Where a list would stand behind one that is missing: past every line.
-const MISSING: usize = 0xffff_ffff_ffff_ffff;
+pub const MISSING: usize = 0xffff_ffff_ffff_ffff;
 
 pub const MAX_BYTE: u64 = 0xff;
 

@@ -34,6 +34,10 @@
 //     coverage D ZUNIQS STARTS ENDS                 RANGES STARTS ENDS
 //     clip D ZUNIQS DENSITIES STARTS ENDS ZUNIQS DENSITIES
 //                                                   CELLS ZUNIQS DENSITIES
+//     ask D ZUNIQS COUNTS D ZUNIQS COUNTS M T PROTECTED
+//                                                   CELLS ENTRIES TOTAL
+//     commit D ZUNIQS COUNTS D ZUNIQS COUNTS M T PROTECTED CELLS ENTRIES TOTAL ZUNIQS COUNTS
+//                                                   ENTRIES TOTAL ZUNIQS COUNTS
 //
 // The calls on narrow maps, `narrow_to_zuniq` and so on, take and answer what those without `narrow_`
 // do, and `read_narrow_rows` and `write_narrow_rows` what those of count rows do. Their zuniqs and hashes
@@ -55,7 +59,7 @@ pub(crate) fn call(kind: Kind, numbers: &[u64]) -> Answer {
         Kind::Overlapped => crate::maps::get_overlapped_cells(numbers),
         Kind::AddCounts => crate::building::add_counts(numbers),
         Kind::AddDensities => crate::building::add_densities(numbers),
-        Kind::Pool => crate::combining::pool(numbers),
+        Kind::Pool => crate::pooling::pool(numbers),
         Kind::Product => crate::combining::product(numbers),
         Kind::ReadCountRows => crate::reading::read_count_rows(numbers),
         Kind::ReadDensityRows => crate::reading::read_density_rows(numbers),
@@ -79,5 +83,7 @@ pub(crate) fn call(kind: Kind, numbers: &[u64]) -> Answer {
         Kind::ColumnsToRows => crate::layouts::columns_to_rows(numbers),
         Kind::Coverage => crate::reach::coverage(numbers),
         Kind::Clip => crate::reach::clip(numbers),
+        Kind::Ask => crate::pooling::ask(numbers),
+        Kind::Commit => crate::pooling::commit(numbers),
     }
 }

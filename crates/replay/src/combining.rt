@@ -1,33 +1,30 @@
-// Section 5: combining. The arguments are read in three steps: the left map, the right map, and the
-// rest with the output.
+// Section 5: the product; `pooling` has the pool. The arguments are read in three steps: the left map,
+// the right map, and the rest with the output.
 ghost use Prim.Native.Nat.{_≤_};
 use crate::answer::Answer;
 use crate::arguments::MAX_BYTE;
-use crate::arguments::MAX_COUNT;
 use crate::arguments::MAX_LONG;
 use crate::arguments::byte_of;
-use crate::arguments::counts_of;
 use crate::arguments::floats_of;
 use crate::arguments::list_at;
-use crate::building::counts_added;
 use crate::building::densities_added;
 use crate::floats::float_of;
 
 // M, T and k, which a pool has no use for, and the place in the line behind them.
-struct Settings {
-    depth_threshold: u8,
-    chi2_threshold: f64,
-    k: f64,
-    next: usize,
+pub struct Settings {
+    pub depth_threshold: u8,
+    pub chi2_threshold: f64,
+    pub k: f64,
+    pub next: usize,
 }
 
-enum Read {
+pub enum Read {
     Settings(Settings),
     Unreadable,
 }
 
 // M, T and, where there are three, k stand from `at` on.
-fn settings_at(numbers: &[u64], at: usize, len: usize) -> Read
+pub(crate) fn settings_at(numbers: &[u64], at: usize, len: usize) -> Read
     requires { ⌜ 2 ≤ len ⌝ }
 {
     if at >= numbers.len() {
@@ -45,134 +42,6 @@ fn settings_at(numbers: &[u64], at: usize, len: usize) -> Read
         k: float_of(numbers[at + len - 1]),
         next: at + len,
     })
-}
-
-pub(crate) fn pool(numbers: &[u64]) -> Answer {
-    if numbers.len() < 1 {
-        return Answer::unreadable();
-    }
-    let depth = numbers[0];
-    if depth > MAX_BYTE {
-        return Answer::unreadable();
-    }
-    let left = list_at(numbers, 1, MAX_LONG);
-    let left_counts = list_at(numbers, left.next, MAX_COUNT);
-    let zuniqs = left.items;
-    let len = left.len;
-    let values = counts_of(left_counts);
-    let counts = values.items;
-    let n = values.len;
-    pool_with(
-        byte_of(depth),
-        &zuniqs[..len],
-        &counts[..n],
-        numbers,
-        left_counts.next,
-    )
-}
-
-// The right map stands from `at` on.
-fn pool_with(
-    left_depth: u8,
-    left_zuniqs: &[u64],
-    left_counts: &[u32],
-    numbers: &[u64],
-    at: usize,
-) -> Answer {
-    if at >= numbers.len() {
-        return Answer::unreadable();
-    }
-    let depth = numbers[at];
-    if depth > MAX_BYTE {
-        return Answer::unreadable();
-    }
-    let right = list_at(numbers, at + 1, MAX_LONG);
-    let right_counts = list_at(numbers, right.next, MAX_COUNT);
-    let zuniqs = right.items;
-    let len = right.len;
-    let values = counts_of(right_counts);
-    let counts = values.items;
-    let n = values.len;
-    pool_into(
-        left_depth,
-        left_zuniqs,
-        left_counts,
-        byte_of(depth),
-        &zuniqs[..len],
-        &counts[..n],
-        numbers,
-        right_counts.next,
-    )
-}
-
-// M, T, the protected parents and the output stand from `at` on.
-fn pool_into(
-    left_depth: u8,
-    left_zuniqs: &[u64],
-    left_counts: &[u32],
-    right_depth: u8,
-    right_zuniqs: &[u64],
-    right_counts: &[u32],
-    numbers: &[u64],
-    at: usize,
-) -> Answer {
-    let Read::Settings(settings) = settings_at(numbers, at, 2) else {
-        return Answer::unreadable();
-    };
-    let listed = list_at(numbers, settings.next, MAX_LONG);
-    let output = list_at(numbers, listed.next, MAX_LONG);
-    let output_counts = list_at(numbers, output.next, MAX_COUNT);
-    if output_counts.next > numbers.len() {
-        return Answer::unreadable();
-    }
-    let protected = listed.items;
-    let mut zuniqs = output.items;
-    let len = output.len;
-    let values = counts_of(output_counts);
-    let mut counts = values.items;
-    let n = values.len;
-    pooled(
-        left_depth,
-        left_zuniqs,
-        left_counts,
-        right_depth,
-        right_zuniqs,
-        right_counts,
-        settings,
-        &protected[..listed.len],
-        &mut zuniqs[..len],
-        &mut counts[..n],
-        output_counts.next,
-    )
-}
-
-fn pooled(
-    left_depth: u8,
-    left_zuniqs: &[u64],
-    left_counts: &[u32],
-    right_depth: u8,
-    right_zuniqs: &[u64],
-    right_counts: &[u32],
-    settings: Settings,
-    protected: &[u64],
-    zuniqs: &mut [u64],
-    counts: &mut [u32],
-    arguments: usize,
-) -> Answer {
-    let added = pool::pool(
-        left_depth,
-        left_zuniqs,
-        left_counts,
-        right_depth,
-        right_zuniqs,
-        right_counts,
-        settings.depth_threshold,
-        settings.chi2_threshold,
-        protected,
-        zuniqs,
-        counts,
-    );
-    counts_added(added, zuniqs, counts, arguments)
 }
 
 pub(crate) fn product(numbers: &[u64]) -> Answer {

@@ -43,6 +43,8 @@ pub enum Kind {
     ColumnsToRows,
     Coverage,
     Clip,
+    Ask,
+    Commit,
 }
 
 // What a word names.
@@ -51,7 +53,7 @@ pub enum Named {
     Nothing,
 }
 
-pub const KINDS: usize = 35;
+pub const KINDS: usize = 37;
 
 impl Kind {
     // The kind's place in an array with one for each kind.
@@ -94,6 +96,8 @@ impl Kind {
             Kind::ColumnsToRows => 32,
             Kind::Coverage => 33,
             Kind::Clip => 34,
+            Kind::Ask => 35,
+            Kind::Commit => 36,
         }
     }
 
@@ -134,7 +138,9 @@ impl Kind {
             31 => Kind::RowsToColumns,
             32 => Kind::ColumnsToRows,
             33 => Kind::Coverage,
-            _ => Kind::Clip,
+            34 => Kind::Clip,
+            35 => Kind::Ask,
+            _ => Kind::Commit,
         }
     }
 
@@ -176,6 +182,8 @@ impl Kind {
             Kind::ColumnsToRows => *b"columns_to_rows             ",
             Kind::Coverage => *b"coverage                    ",
             Kind::Clip => *b"clip                        ",
+            Kind::Ask => *b"ask                         ",
+            Kind::Commit => *b"commit                      ",
         }
     }
 

@@ -39,6 +39,7 @@ mod narrow_maps;
 mod narrow_overlapped;
 mod narrow_rows;
 mod overlapped;
+mod pooling;
 mod print;
 mod reach;
 mod reading;
@@ -56,7 +57,7 @@ use line::read;
 use print::print_answer;
 use tally::Tally;
 
-// The input has some 255,000 bytes.
+// The input has some 259,000 bytes.
 const MAX_INPUT: usize = 262_144;
 
 fn main() {

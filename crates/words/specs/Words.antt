@@ -26,6 +26,8 @@ use Rattle.mom.specs.declared.lookup.Run.{Run}
 use Rattle.build.specs.Told.{toldCounts, toldDensities}
 use Rattle.build.specs.declared.counts.CountsAdded.{CountsAdded}
 use Rattle.build.specs.declared.densities.DensitiesAdded.{DensitiesAdded}
+use Rattle.combine.specs.Told.{toldAsked}
+use Rattle.combine.specs.declared.counts.Asked.{Asked}
 use Rattle.moving.specs.Told.{toldMoved}
 use Rattle.moving.specs.declared.Moved.{Moved}
 use Rattle.coverage.specs.Told.{toldCovered}
@@ -157,6 +159,14 @@ countsWord a old = bothWord (toldCounts a) old
 
 unfoldable pub densitiesWord : DensitiesAdded → ℕ
 densitiesWord a = inWord (toldDensities a)
+
+-- the figures of a pool that is asked for go through three numbers
+abbrev pub figuresWord : Told (ℕ × ℕ × ℕ) → ℕ → ℕ → ℕ → ℕ × ℕ × ℕ × ℕ
+figuresWord (Told.refused number place) cells entries total = (wordOf number place, cells, entries, total)
+figuresWord (Told.answer t) cells entries total = (wordOf accepted 0, t .0, t .1, t .2)
+
+unfoldable pub askedWord : Asked → ℕ → ℕ → ℕ → ℕ × ℕ × ℕ × ℕ
+askedWord a cells entries total = figuresWord (toldAsked a) cells entries total
 
 -- the depth and the number of entries of a map that is moved: the number is in the word, as it is of all calls that leave a map
 abbrev pub depthBeside : Told (ℕ × ℕ) → Told (ℕ × ℕ)

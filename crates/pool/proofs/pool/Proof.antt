@@ -56,7 +56,7 @@ pool-checked-requires c κs =
     let q = pool-input-passes (a .protected .now) (left s) (right s) (a .depth-threshold) (a .chi2-threshold) _ _ (accepted t .0) in
     let p = q .0 in
     let h = passed-holds (left s) (right s) _ _ p in
-    (h .0, h .1, passed-total (a .protected .now) (left s) (right s) (a .depth-threshold) (a .chi2-threshold) (a .zuniqs .now) (a .counts .now) p ∙ accepted t .1, p .paired, q .2)
+    (h .0, h .1, passed-total (left s) (right s) _ _ p ∙ accepted t .1, p .paired, q .2)
 
 returns : tie.Need-returns
 returns c =

@@ -107,7 +107,7 @@ Keeps c d =
 keeps : (c : Fetched) (s : LhsRhsBoth) → ShowsAt c s → (d : Dhzv) → (asEntry d ≡ pooled s) × (zuniqIn d ≡ zuniqShown zuniqIn (sawOf s)) → Keeps c d
 keeps c s t d e =
     let p = start (loop c) .pre in
-    let k = shown-keeps (p .0 .0) (p .0 .1) (p .0 .2) (ready c) s t (accepted-count-is-sum 29 (start (loop c) .args .list .now)) (p .1) d (e .0) (e .1) in
+    let k = shown-keeps (ready c) s t (p .0 .0) (p .0 .1) (p .0 .2) (accepted-count-is-sum 29 (start (loop c) .args .list .now)) (p .1) d (e .0) (e .1) in
     (k .0, k .1, p .0 .3)
 
 -- a head is split
