@@ -45,7 +45,7 @@
  * What doesn't fit into the word goes through a pointer. A function says when it writes such a
  * number: by a refusal, and by MOM_NONE, it is left as it was. A slice is its pointer and then its
  * length in elements. No function keeps a pointer or has a state, so any number of threads may call;
- * none takes memory but the stack, where its own frames are less than 4 KiB. A double is the 64-bit
+ * none takes memory but the stack, where its own frames are less than 16 KiB. A double is the 64-bit
  * one of IEEE 754.
  *
  * What a caller has to see to, since no function can look at it:
@@ -98,6 +98,7 @@ extern "C" {
 #define MOM_ENTRY_TOO_DEEP 13
 #define MOM_INVALID_RANGE 14
 #define MOM_INVALID_PROTECTED 15
+#define MOM_FIGURES_DIFFER 16
 
 /* The code of an answer: MOM_ACCEPTED, a refusal's number, MOM_NONE, MOM_KEPT or a fault. */
 static inline uint8_t mom_code(uint64_t word) { return (uint8_t)(word >> 56); }
@@ -282,6 +283,33 @@ uint64_t mom_pool(uint8_t left_depth, const uint64_t *left_zuniqs, size_t lzl,
                   size_t rcl, uint8_t depth_threshold, double chi2_threshold,
                   const uint64_t *protected_parents, size_t pl, uint64_t *zuniqs, size_t zl,
                   uint32_t *counts, size_t cl, uint32_t *total);
+
+/* Answers what mom_pool would cost and come to, before a buffer is given up for it: *cells = the number
+ * of cells before they are merged, which is how many places the output has to have, *entries = the
+ * number of entries after that, and *total = the sum of their counts. The value is 0. Nothing else is
+ * written, and by a refusal the three are left as they were.
+ * Refuses by 1, 2, 3 and 15 as mom_pool does; then by 4: lzl isn't lcl, or rzl isn't rcl; then by 5 and
+ * 10 as mom_pool does. There is no output, and so no 11. */
+uint64_t mom_ask(uint8_t left_depth, const uint64_t *left_zuniqs, size_t lzl,
+                 const uint32_t *left_counts, size_t lcl, uint8_t right_depth,
+                 const uint64_t *right_zuniqs, size_t rzl, const uint32_t *right_counts, size_t rcl,
+                 uint8_t depth_threshold, double chi2_threshold, const uint64_t *protected_parents,
+                 size_t pl, size_t *cells, size_t *entries, uint32_t *total);
+
+/* Pools two count maps as mom_pool does, where cells, entries and asked_total are what mom_ask answers
+ * for the same maps, thresholds and protected parents. They are worked out anew, so that inputs which
+ * have other figures by now are noticed. The value is the number of entries and *total = the sum of
+ * their counts; every place after the entries is 0. By a refusal both buffers and *total are left as
+ * they were. Where zl is cl, mom_pool is an ask followed by its commit, in its refusals too.
+ * Refuses by 1, 2, 3, 15, 4, 5 and 10 as mom_pool does; then by 16: one of the three figures isn't the
+ * one that mom_ask would answer; then by 11: zl is less than cells. */
+uint64_t mom_commit(uint8_t left_depth, const uint64_t *left_zuniqs, size_t lzl,
+                    const uint32_t *left_counts, size_t lcl, uint8_t right_depth,
+                    const uint64_t *right_zuniqs, size_t rzl, const uint32_t *right_counts,
+                    size_t rcl, uint8_t depth_threshold, double chi2_threshold,
+                    const uint64_t *protected_parents, size_t pl, size_t cells, size_t entries,
+                    uint32_t asked_total, uint64_t *zuniqs, size_t zl, uint32_t *counts, size_t cl,
+                    uint32_t *total);
 
 /* Multiplies two density maps, each with a depth of its own, into zuniqs and densities, which may
  * hold anything. A cell that both maps have gets (k * left) * right, a cell that one map has is

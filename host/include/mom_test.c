@@ -195,6 +195,184 @@ static void pooling(void) {
            "a pool of no entries");
 }
 
+/* Asking for the pool of (0,0) of 10 and (1,1) of 3, with numbers before, between and behind the three
+ * figures, all of them 5. */
+struct asked {
+    uint64_t word;
+    size_t before, cells, between, entries, behind;
+    uint32_t first, total, last;
+};
+
+static struct asked ask(uint8_t left_depth, size_t right_len, uint8_t m, double t,
+                        const uint64_t *list, size_t pl) {
+    const uint64_t left[1] = {UINT64_C(1) << 58}, right[1] = {UINT64_C(3) << 56};
+    const uint32_t ten[1] = {10}, three[1] = {3};
+    struct asked a = {0, 5, 5, 5, 5, 5, 5, 5, 5};
+    a.word = mom_ask(left_depth, left, 1, ten, 1, 1, right, right_len, three, 1, m, t, list, pl,
+                     &a.cells, &a.entries, &a.total);
+    return a;
+}
+
+/* Whether these are the figures, and nothing else was written. */
+static int figures(struct asked a, size_t cells, size_t entries, uint32_t total) {
+    return a.cells == cells && a.entries == entries && a.total == total && a.before == 5 &&
+           a.between == 5 && a.behind == 5 && a.first == 5 && a.last == 5;
+}
+
+static int not_asked(struct asked a, uint8_t number, uint64_t place) {
+    return answers(a.word, number, place) && figures(a, 5, 5, 5);
+}
+
+static int asks(struct asked a, size_t cells, size_t entries, uint32_t total) {
+    return answers(a.word, MOM_ACCEPTED, 0) && figures(a, cells, entries, total);
+}
+
+static void asking(void) {
+    const uint64_t base[1] = {UINT64_C(1) << 58}, falling[3] = {1, 5, 3};
+
+    expect(asks(ask(0, 1, 0, 2, unlisted, 0), 4, 4, 13), "asking for 3, 6, 2, 2");
+    expect(asks(ask(0, 1, 0, 3.5, unlisted, 0), 4, 1, 13), "asking for 13");
+    expect(asks(ask(0, 1, 1, 3.5, unlisted, 0), 4, 4, 13), "asking, M = 1");
+    expect(asks(ask(0, 1, 0, 3.5, base, 1), 4, 4, 13), "asking under a protected parent");
+
+    /* What is refused has everything behind it in the table wrong too. */
+    expect(not_asked(ask(30, 0, 30, NAN, falling, 3), MOM_DEPTH_OUT_OF_RANGE, 0),
+           "asking at depth 30");
+    expect(not_asked(ask(0, 0, 30, NAN, falling, 3), MOM_DEPTH_THRESHOLD_OUT_OF_RANGE, 0),
+           "asking, M = 30");
+    expect(not_asked(ask(0, 0, 0, NAN, falling, 3), MOM_CHI2_THRESHOLD_IS_NAN, 0),
+           "asking, T a NaN");
+    expect(not_asked(ask(0, 0, 0, 2, falling, 3), MOM_INVALID_PROTECTED, 2),
+           "asking under a list that doesn't rise");
+    expect(not_asked(ask(0, 0, 0, 2, unlisted, 0), MOM_LENGTHS_DIFFER, 0),
+           "asking for a map of two lengths");
+}
+
+/* Asking for two maps whose zuniqs are the same memory, so many of each: (1,0) and what is no zuniq. */
+static struct asked ask_both(size_t left_len, size_t right_len, const uint32_t *right_counts) {
+    const uint64_t zuniqs[2] = {UINT64_C(1) << 56, 2};
+    const uint32_t largest[2] = {UINT32_MAX, 1};
+    struct asked a = {0, 5, 5, 5, 5, 5, 5, 5, 5};
+    a.word = mom_ask(1, zuniqs, left_len, largest, left_len, 1, zuniqs, right_len, right_counts,
+                     right_len, 0, 2, unlisted, 0, &a.cells, &a.entries, &a.total);
+    return a;
+}
+
+static void asking_for_much_and_nothing(void) {
+    const uint32_t counts[2] = {1, 1}, none[1] = {0};
+
+    expect(not_asked(ask_both(2, 2, counts), MOM_INVALID_MAP, 1), "asking for what is no map");
+    expect(not_asked(ask_both(1, 2, counts), MOM_INVALID_MAP, 1), "asking for one map that is none");
+    expect(not_asked(ask_both(1, 1, counts), MOM_COUNT_OVERFLOW, 0), "asking for 2^32");
+    expect(asks(ask_both(1, 1, none), 1, 1, UINT32_MAX), "asking for 2^32 - 1");
+    expect(asks(ask_both(0, 1, counts), 1, 1, 1), "asking for one map alone");
+    expect(asks(ask_both(0, 0, counts), 0, 0, 0), "asking for no entries");
+}
+
+/* Committing the same pool at T = 3.5, of which the figures are 4, 1 and 13, into two buffers of so
+ * many places, which hold 5s before. */
+static struct pooled commit(uint32_t ten, size_t cells, size_t entries, uint32_t total, size_t zl,
+                            size_t cl) {
+    const uint64_t left[1] = {UINT64_C(1) << 58}, right[1] = {UINT64_C(3) << 56};
+    const uint32_t three[1] = {3};
+    struct pooled p = {0, {5, 5, 5, 5, 5}, {5, 5, 5, 5, 5}, 5};
+    p.word = mom_commit(0, left, 1, &ten, 1, 1, right, 1, three, 1, 0, 3.5, unlisted, 0, cells,
+                        entries, total, p.zuniqs, zl, p.counts, cl, &p.total);
+    return p;
+}
+
+static int differs(struct pooled p) { return untouched(p, MOM_FIGURES_DIFFER, 0); }
+
+static void committing(void) {
+    const uint64_t base = UINT64_C(1) << 58;
+    struct pooled p = commit(10, 4, 1, 13, 5, 5);
+
+    expect(answers(p.word, MOM_ACCEPTED, 1) && p.total == 13 && p.zuniqs[0] == base &&
+           p.counts[0] == 13 && p.zuniqs[1] == 0 && p.counts[4] == 0, "a commit of 13");
+    p = commit(10, 4, 1, 13, 4, 4);
+    expect(answers(p.word, MOM_ACCEPTED, 1) && p.total == 13 && p.zuniqs[0] == base &&
+           p.counts[3] == 0 && p.zuniqs[4] == 5 && p.counts[4] == 5, "a commit into four places");
+    expect(untouched(commit(10, 4, 1, 13, 3, 3), MOM_NO_SPACE, 0), "a commit into three places");
+
+    expect(differs(commit(10, 3, 1, 13, 5, 5)) && differs(commit(10, 5, 1, 13, 5, 5)) &&
+           differs(commit(10, 0, 1, 13, 5, 5)) && differs(commit(10, SIZE_MAX, 1, 13, 5, 5)),
+           "a commit of other cells");
+    expect(differs(commit(10, 4, 0, 13, 5, 5)) && differs(commit(10, 4, 2, 13, 5, 5)) &&
+           differs(commit(10, 4, 4, 13, 5, 5)) && differs(commit(10, 4, SIZE_MAX, 13, 5, 5)),
+           "a commit of other entries");
+    expect(differs(commit(10, 4, 1, 12, 5, 5)) && differs(commit(10, 4, 1, 14, 5, 5)) &&
+           differs(commit(10, 4, 1, 0, 5, 5)) && differs(commit(10, 4, 1, UINT32_MAX, 5, 5)),
+           "a commit of another total");
+    expect(differs(commit(11, 4, 1, 13, 5, 5)), "a commit of a map that has changed");
+    expect(differs(commit(10, 3, 1, 13, 3, 3)) && differs(commit(10, 4, 0, 13, 0, 0)),
+           "other figures before too few places");
+    expect(untouched(commit(UINT32_MAX, 4, 1, 13, 0, 0), MOM_COUNT_OVERFLOW, 0),
+           "2^32 before other figures");
+    expect(untouched(commit(UINT32_MAX, 4, 1, 13, 0, 1), MOM_LENGTHS_DIFFER, 0),
+           "a commit into two lengths");
+}
+
+/* Two maps whose first entry is no zuniq, the right one of so many counts, committed by other figures
+ * into no place. */
+static struct pooled commit_none(uint8_t depth, uint8_t m, double t, size_t pl, size_t rcl) {
+    const uint64_t falling[3] = {1, 5, 3}, two[1] = {2};
+    const uint32_t one[1] = {1};
+    struct pooled p = {0, {5, 5, 5, 5, 5}, {5, 5, 5, 5, 5}, 5};
+    p.word = mom_commit(1, two, 1, one, 1, depth, two, 1, one, rcl, m, t, falling, pl, 9, 9, 9,
+                        p.zuniqs, 0, p.counts, 0, &p.total);
+    return p;
+}
+
+/* What is refused has everything behind it in the table wrong too. */
+static void refused_commits(void) {
+    const uint64_t none[1] = {2};
+    const uint32_t one[1] = {1};
+    struct pooled p = commit_none(30, 30, NAN, 3, 0);
+
+    expect(untouched(p, MOM_DEPTH_OUT_OF_RANGE, 0), "a commit at depth 30");
+    expect(untouched(commit_none(1, 30, NAN, 3, 0), MOM_DEPTH_THRESHOLD_OUT_OF_RANGE, 0),
+           "a commit, M = 30");
+    expect(untouched(commit_none(1, 0, NAN, 3, 0), MOM_CHI2_THRESHOLD_IS_NAN, 0),
+           "a commit, T a NaN");
+    expect(untouched(commit_none(1, 0, 2, 3, 0), MOM_INVALID_PROTECTED, 2),
+           "a commit under a list that doesn't rise");
+    expect(untouched(commit_none(1, 0, 2, 2, 0), MOM_LENGTHS_DIFFER, 0),
+           "a commit of a map of two lengths");
+    expect(untouched(commit_none(1, 0, 2, 2, 1), MOM_INVALID_MAP, 0), "a commit of what is no map");
+    p.word = mom_commit(0, none, 0, one, 0, 29, none, 0, one, 0, 0, 2, unlisted, 0, 0, 0, 1, p.zuniqs,
+                        5, p.counts, 5, &p.total);
+    expect(differs(p), "a commit of no entries and a total");
+    p.word = mom_commit(0, none, 0, one, 0, 29, none, 0, one, 0, 0, 2, unlisted, 0, 0, 0, 0, p.zuniqs,
+                        5, p.counts, 5, &p.total);
+    expect(answers(p.word, MOM_ACCEPTED, 0) && p.total == 0 && p.zuniqs[0] == 0 && p.counts[0] == 0,
+           "a commit of no entries");
+}
+
+/* The figures of an ask, and the commit by them under the same list. */
+static void asking_and_committing(void) {
+    const uint64_t base[1] = {UINT64_C(1) << 58}, last[1] = {(UINT64_C(1) << 59) - 1};
+    const uint32_t one[1] = {1}, seven[1] = {7};
+    uint64_t zuniqs[89] = {5}, word;
+    uint32_t counts[89] = {5}, asked_total = 5, total = 5;
+    size_t cells = 5, entries = 5;
+
+    /* (0,0) is split down to its last cell of depth 29, and merged again up to its children. */
+    word = mom_ask(0, base, 1, one, 1, 29, last, 1, seven, 1, 0, INFINITY, base, 1, &cells, &entries,
+                   &asked_total);
+    expect(answers(word, MOM_ACCEPTED, 0) && cells == 88 && entries == 4 && asked_total == 8,
+           "asking for a split through 29 depths");
+    zuniqs[88] = 5;
+    word = mom_commit(0, base, 1, one, 1, 29, last, 1, seven, 1, 0, INFINITY, base, 1, cells, entries,
+                      asked_total, zuniqs, 88, counts, 88, &total);
+    expect(answers(word, MOM_ACCEPTED, 4) && total == 8 && zuniqs[3] == UINT64_C(7) << 56 &&
+           counts[0] == 1 && counts[1] == 0 && counts[3] == 7 && zuniqs[4] == 0 && zuniqs[88] == 5,
+           "the commit of it");
+    word = mom_commit(0, base, 1, one, 1, 29, last, 1, seven, 1, 0, INFINITY, unlisted, 0, cells,
+                      entries, asked_total, zuniqs, 88, counts, 88, &total);
+    expect(answers(word, MOM_FIGURES_DIFFER, 0) && total == 8 && counts[3] == 7,
+           "the commit of it under another list");
+}
+
 /* Whether four counts are merged to 0, with the chi-square left alone. */
 static int merges_to_0(uint8_t p, uint8_t m, double t) {
     double chi2 = 5.5;
@@ -1192,6 +1370,11 @@ int main(void) {
     rows();
     maps_of_rows();
     pooling();
+    asking();
+    asking_for_much_and_nothing();
+    committing();
+    refused_commits();
+    asking_and_committing();
     merging_blank_sky();
     blank_maps();
     multiplying();

@@ -30,6 +30,20 @@ pub fn contest(
     best
 }
 
+/// The best of each of several jobs, which take turns as the two sides of a contest do.
+pub fn in_turns<const N: usize>(
+    rounds: Rounds,
+    mut jobs: [&mut dyn FnMut() -> Duration; N],
+) -> [Duration; N] {
+    let mut best = [Duration::MAX; N];
+    for _ in 0..rounds.0 {
+        for (best, job) in best.iter_mut().zip(&mut jobs) {
+            *best = job().min(*best);
+        }
+    }
+    best
+}
+
 /// The best of one side.
 pub fn alone(rounds: Rounds, mut ours: impl FnMut() -> Duration) -> Duration {
     (0..rounds.0).map(|_| ours()).min().unwrap_or(Duration::MAX)
@@ -84,6 +98,26 @@ pub fn row_with_extra(
         "| {work} | {number} | {a:.2} | {b:.2} | {:.2} | {checks:.2} | {clearing:.2} | {:.2} |",
         a / b,
         (a - checks - clearing) / b
+    );
+}
+
+pub fn heading_of_asking(group: &str) {
+    println!(
+        "\n## {group}\n\n| work | entries | pool, ns an entry | ask, ns an entry | ratio to the pool | \
+         ask and commit, ns an entry | ratio to the pool | Rust, ns an entry | ratio to the Rust |"
+    );
+    println!("|---|---:|---:|---:|---:|---:|---:|---:|---:|");
+}
+
+/// A pool, an ask, an ask followed by its commit, and the original's pool. The last ratio is that of ask and
+/// commit together.
+pub fn row_of_asking(work: &str, number: usize, times: [Duration; 4]) {
+    let [pool, ask, both, original] = times.map(|time| each(time, number));
+    println!(
+        "| {work} | {number} | {pool:.2} | {ask:.2} | {:.2} | {both:.2} | {:.2} | {original:.2} | {:.2} |",
+        ask / pool,
+        both / pool,
+        both / original
     );
 }
 

@@ -16,6 +16,22 @@ pub fn list_of<Z: Width>(cells: &[Cell]) -> Vec<Z> {
     list
 }
 
+/// Of so many small inputs that follow each other, each list gets one. The numbers of maps, cells and settings
+/// that small inputs are made from don't have this factor, so that each list comes to stand beside all of them.
+const A_SHARE_OF: usize = 11;
+
+/// Small inputs without a list, and a share of them once more under one: `under` gives an input its `n`th list,
+/// where there are as many.
+pub fn with_lists<I>(
+    inputs: impl Iterator<Item = I>,
+    under: impl Fn(&I, usize) -> Option<I>,
+) -> impl Iterator<Item = I> {
+    inputs.enumerate().flat_map(move |(number, input)| {
+        let listed = under(&input, number % A_SHARE_OF);
+        [Some(input), listed].into_iter().flatten()
+    })
+}
+
 /// For a call on these cells: often empty, or a few; now and then many, or the parents of all.
 pub fn random<Z: Width>(random: &mut Random, cells: &[Cell]) -> Vec<Z> {
     let number = match random.below(16) {

@@ -5,7 +5,7 @@ use std::{
     panic::{catch_unwind, AssertUnwindSafe},
 };
 
-use mom::{pool, product, Map, Refusal};
+use mom::{ask, commit, pool, product, Figures, Map, Refusal};
 use oracle::run;
 
 type Entries<V> = Vec<(u64, V)>;
@@ -44,7 +44,17 @@ fn ours(pair: Pair) -> Result<Entries<u32>, Refusal> {
 }
 
 /// The same under a list of protected parents.
-fn ours_under(list: &[u64], (dl, left, dr, right, m, t): Pair) -> Result<Entries<u32>, Refusal> {
+fn ours_under(list: &[u64], pair: Pair) -> Result<Entries<u32>, Refusal> {
+    let (.., m, t) = pair;
+    left_by(|zuniqs, counts| {
+        with_maps(pair, |left, right| {
+            let added = pool(left, right, m, t, list, zuniqs, counts)?;
+            Ok(added.entries)
+        })
+    })
+}
+
+fn with_maps<T>((dl, left, dr, right, ..): Pair, call: impl FnOnce(Map<u32>, Map<u32>) -> T) -> T {
     let (left_zuniqs, left_counts): (Vec<u64>, Vec<u32>) = left.iter().copied().unzip();
     let (right_zuniqs, right_counts): (Vec<u64>, Vec<u32>) = right.iter().copied().unzip();
     let left = Map {
@@ -57,11 +67,18 @@ fn ours_under(list: &[u64], (dl, left, dr, right, m, t): Pair) -> Result<Entries
         zuniqs: &right_zuniqs,
         values: &right_counts,
     };
+    call(left, right)
+}
+
+/// A call into eight places, which answers its number of entries.
+fn left_by(
+    call: impl FnOnce(&mut [u64], &mut [u32]) -> Result<usize, Refusal>,
+) -> Result<Entries<u32>, Refusal> {
     let (mut zuniqs, mut counts) = ([77; 8], [77; 8]);
-    let answer = pool(left, right, m, t, list, &mut zuniqs, &mut counts);
+    let answer = call(&mut zuniqs, &mut counts);
     let entries = zuniqs.into_iter().zip(counts);
     let entries: Entries<u32> = match answer {
-        Ok(added) => entries.take(added.entries).collect(),
+        Ok(number) => entries.take(number).collect(),
         Err(_) => entries.collect(),
     };
     if answer.is_err() {
@@ -296,5 +313,91 @@ fn the_pool_and_the_product_refuse_a_list_that_is_none() {
         assert_eq!(ours_under(list, pair), Err(refusal));
         let answer = product(empty, empty, 0, 1.0, 1.0, list, &mut [], &mut []);
         assert_eq!(answer, Err(refusal));
+    }
+}
+
+/// Note 8 of 02: what an ask answers.
+fn asked(list: &[u64], pair: Pair) -> Result<[usize; 3], Refusal> {
+    let (.., m, t) = pair;
+    let figures = with_maps(pair, |left, right| ask(left, right, m, t, list));
+    figures.map(|figures| [figures.cells, figures.entries, figures.total as usize])
+}
+
+fn committed(list: &[u64], pair: Pair, figures: [usize; 3]) -> Result<Entries<u32>, Refusal> {
+    let (.., m, t) = pair;
+    let [cells, entries, total] = figures;
+    let figures = Figures {
+        cells,
+        entries,
+        total: total as u32,
+    };
+    left_by(|zuniqs, counts| {
+        with_maps(pair, |left, right| {
+            let added = commit(left, right, m, t, list, figures, zuniqs, counts)?;
+            Ok(added.entries)
+        })
+    })
+}
+
+/// The original has neither call, and its pool refuses none of these.
+#[test]
+fn the_ask_and_the_commit_refuse_what_the_pool_refuses() {
+    let four = entries(&FOUR);
+    let (too_deep, twice) = (entries(&[(1, 0, 1)]), entries(&[(1, 0, 1), (1, 0, 1)]));
+    let most = entries(&[(1, 0, u32::MAX)]);
+    for (list, pair, number, place) in [
+        (&[][..], (30, &NONE[..], 0, &NONE[..], 30, f64::NAN), 1, 0),
+        (&[], (1, &four, 0, &NONE, 30, f64::NAN), 2, 0),
+        (&[4, 4], (1, &four, 0, &NONE, 0, f64::NAN), 3, 0),
+        (&[4, 4], (0, &too_deep, 0, &NONE, 0, 1.0), 15, 1),
+        (&[], (0, &too_deep, 0, &NONE, 0, 1.0), 5, 0),
+        (&[], (1, &four, 1, &twice, 0, 1.0), 5, 1),
+        (&[], (1, &most, 1, &four, 0, 1.0), 10, 0),
+    ] {
+        let refusal = Refusal::of(number, place).unwrap();
+        assert_eq!(ours_under(list, pair), Err(refusal));
+        assert_eq!(asked(list, pair), Err(refusal));
+        for figures in [[0; 3], [4, 1, 4], [usize::MAX; 3]] {
+            assert_eq!(committed(list, pair, figures), Err(refusal));
+        }
+    }
+}
+
+/// Of blank sky, and under a listed parent: the original's own pool has another number of entries.
+#[test]
+fn the_ask_counts_entries_as_the_pool_merges_them() {
+    let (four, base) = (entries(&FOUR), entries(&[(0, 0, 4)]));
+    let blank = entries(&FOUR.map(|(depth, hash, _)| (depth, hash, 0)));
+    let pair = (1, &blank[..], 0, &NONE[..], 0, 0.0);
+    assert_eq!(original(pair), blank);
+    assert_eq!(asked(&[], pair), Ok([4, 1, 0]));
+    assert_eq!(committed(&[], pair, [4, 1, 0]), ours(pair));
+    let pair = (1, &four[..], 0, &NONE[..], 0, f64::INFINITY);
+    let list = [run::to_zuniq(0, 0)];
+    assert_eq!(original(pair), base);
+    assert_eq!(asked(&list, pair), Ok([4, 4, 4]));
+    assert_eq!(committed(&list, pair, [4, 4, 4]), Ok(four));
+}
+
+/// The original is handed no figures.
+#[test]
+fn the_commit_refuses_figures_that_no_ask_answers() {
+    let four = entries(&FOUR);
+    let pair = (1, &four[..], 0, &NONE[..], 0, 3.5);
+    let base = entries(&[(0, 0, 4)]);
+    assert_eq!((original(pair), ours(pair)), (base.clone(), Ok(base)));
+    let figures = [4, 1, 4];
+    assert_eq!(asked(&[], pair), Ok(figures));
+    assert_eq!(committed(&[], pair, figures), ours(pair));
+    for which in 0..3 {
+        for wrong in [0, figures[which] - 1, figures[which] + 1] {
+            let mut figures = figures;
+            if figures[which] == wrong {
+                continue;
+            }
+            figures[which] = wrong;
+            let refusal = Refusal::of(16, 0).unwrap();
+            assert_eq!(committed(&[], pair, figures), Err(refusal));
+        }
     }
 }

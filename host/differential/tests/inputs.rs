@@ -1,6 +1,9 @@
 //! The inputs, against faults that would have the comparison say less than it seems to.
 
-use std::{collections::HashSet, ops::Range};
+use std::{
+    collections::{BTreeMap, HashSet},
+    ops::Range,
+};
 
 use differential::{
     cells::{cells_to, n_hash, Cell, DEPTH_MAX},
@@ -397,6 +400,28 @@ fn no_small_quad_is_left_out() {
     assert_eq!(quads.len(), 8 * 8 * 8 * 8);
     assert!(quads.contains(&[7, 0, 3, 5]));
     assert_eq!(Quad::<Float>::small(0).count(), 10_000);
+}
+
+/// All small lists of cells are there without protected parents, cut at every point, and one in eleven of them with
+/// each list of parents.
+#[test]
+fn no_small_list_is_left_out() {
+    fn at<V: Build<Z>, Z: Width>() {
+        let (mut unlisted, mut listed) = (0, BTreeMap::new());
+        for input in Add::<V, Z>::small() {
+            match &input.protected[..] {
+                [] => unlisted += 1,
+                list => *listed.entry(list.to_vec()).or_insert(0) += 1,
+            }
+        }
+        let cuts = 256 * (1 + 8 / 2) + 17;
+        assert_eq!(unlisted, cuts * V::small().len() * 6);
+        assert_eq!(listed.len(), 5);
+        assert!(listed.values().all(|number| number * 12 > unlisted));
+    }
+    at::<u32, u64>();
+    at::<u32, u32>();
+    at::<Float, u64>();
 }
 
 /// Random maps of every depth, each with a query.

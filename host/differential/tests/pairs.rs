@@ -357,6 +357,27 @@ fn no_kind_of_product_is_rare() {
     assert_none_is_rare(&drawn(22), &classes);
 }
 
+/// All of them are there without a list: 83 maps in a base cell with two values, or 17 with 0, at four settings; and
+/// an entry in another one of 465 pairs of depths, at three places with three values and two T. Under a list
+/// there are some that it changes.
+#[test]
+fn no_small_pair_is_left_out() {
+    let is_unlisted = |pair: &Input<u32>| pair.protected.is_empty();
+    let (unlisted, listed): (Vec<_>, Vec<_>) = Pool::small().partition(is_unlisted);
+    let nested = 465 * 3 * 3 * 2;
+    assert_eq!(unlisted.len(), (83 * 83 + 17 * 17) * 4 + nested);
+    let changed = listed.iter().filter(|pair| {
+        let unlisted = Input {
+            protected: vec![],
+            ..(*pair).clone()
+        };
+        u32::original(pair) != u32::original(&unlisted)
+    });
+    let (of_one, of_more): (Vec<_>, Vec<_>) = changed.partition(|pair| pair.protected.len() == 1);
+    assert!(of_one.len() > 100 && of_more.len() > 100);
+    assert!(listed.len() * 3 < unlisted.len());
+}
+
 /// "The largest cells that lie in an entry of at least one map and, for each map, lie in one of its
 /// entries or overlap none", among all cells of depths 0 to 3.
 #[test]

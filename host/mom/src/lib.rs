@@ -14,6 +14,9 @@
 //! zuniqs, each above the one before; its cells may lie inside one another. An empty one changes nothing.
 //! Batches that are added to one map, in however many calls, come under the same list.
 //!
+//! A [`pool`] of two maps can be asked for before it is done: [`ask`] answers what it costs and comes to,
+//! and [`commit`] takes these [`Figures`] and pools.
+//!
 //! Nothing here panics, whatever the arguments: a call that can't be answered is refused, and a
 //! [`Refusal`] says in words why, and has the number and the place of the scope's table.
 //!
@@ -33,6 +36,15 @@
 //! let protected = [mom::to_zuniq(0, 0).unwrap()];
 //! assert_eq!(merge(3.5, &protected, [1, 2, 4, 4]), mom::CountMerge::Kept(3.0));
 //! assert_eq!(merge(3.5, &protected, [0; 4]), mom::CountMerge::Merged(0));
+//!
+//! let (base, one) = ([mom::to_zuniq(0, 0).unwrap()], [mom::to_zuniq(1, 1).unwrap()]);
+//! let left = mom::Map { depth: 0, zuniqs: &base, values: &[10] };
+//! let right = mom::Map { depth: 1, zuniqs: &one, values: &[3] };
+//! let figures = mom::ask(left, right, 0, 3.5, &[]).unwrap();
+//! assert_eq!(figures, mom::Figures { cells: 4, entries: 1, total: 13 });
+//! let (mut zuniqs, mut counts) = (vec![0; figures.cells], vec![0; figures.cells]);
+//! mom::commit(left, right, 0, 3.5, &[], figures, &mut zuniqs, &mut counts).unwrap();
+//! assert_eq!((zuniqs[0], counts[0]), (base[0], 13));
 //! ```
 
 pub mod columns;
@@ -46,7 +58,7 @@ pub mod rows;
 
 use std::fmt;
 
-pub use combining::{pool, product, Map};
+pub use combining::{ask, commit, pool, product, Figures, Map};
 pub use refusal::Refusal;
 
 /// What becomes of four counts: their parent's count, or that they are kept, with their chi-square.
@@ -95,8 +107,8 @@ pub enum MapCheck {
     Faulty { place: usize, fault: Fault },
 }
 
-/// What an accepted add call of counts, or a pool, leaves: the number of entries, and the sum of
-/// their counts.
+/// What an accepted add call of counts, a pool or its commit leaves: the number of entries, and the sum
+/// of their counts.
 #[derive(Clone, Copy, Debug, PartialEq, Eq, Hash)]
 pub struct Added {
     pub entries: usize,

@@ -672,7 +672,7 @@ mod tests {
     #[test]
     #[should_panic(expected = "mom.h doesn't allow")]
     fn an_unknown_number_is_not_taken_for_a_refusal() {
-        unpack(refused(16, 0));
+        unpack(refused(17, 0));
     }
 
     #[test]

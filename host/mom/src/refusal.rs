@@ -39,6 +39,8 @@ pub enum Refusal {
     /// 10: counts together exceed 4,294,967,295, in an add call with this cell; or the product of a
     /// cell is not finite.
     Overflow(usize),
+    /// 16: a pool is committed by figures that asking for it would not answer.
+    FiguresDiffer,
     /// 11: the output has too few places for what might be written, or a map comes as more than
     /// 4,096 rows.
     NoSpace,
@@ -67,6 +69,7 @@ impl Refusal {
             (13, entry) => Refusal::EntryTooDeep(entry),
             (14, range) => Refusal::InvalidRange(range),
             (15, index) => Refusal::InvalidProtected(index),
+            (16, 0) => Refusal::FiguresDiffer,
             _ => return None,
         })
     }
@@ -86,6 +89,7 @@ impl Refusal {
             Refusal::CellNotAbove(_) => 8,
             Refusal::InvalidDensity(_) => 9,
             Refusal::Overflow(_) => 10,
+            Refusal::FiguresDiffer => 16,
             Refusal::NoSpace => 11,
             Refusal::InvalidQuery(_) => 12,
             Refusal::EntryTooDeep(_) => 13,
@@ -144,6 +148,7 @@ impl Refusal {
             Refusal::Overflow(_) => {
                 "counts together exceed 4,294,967,295, or the product of a cell is not finite"
             }
+            Refusal::FiguresDiffer => "the figures are not those that asking for the pool answers",
             Refusal::NoSpace => {
                 "the output has too few places, or a map comes as more than 4,096 rows"
             }
@@ -170,8 +175,8 @@ mod tests {
 
     #[test]
     fn no_number_and_no_place_is_lost() {
-        for number in 1..=15 {
-            let has_place = ![1, 2, 3, 4, 11].contains(&number);
+        for number in 1..=16 {
+            let has_place = ![1, 2, 3, 4, 11, 16].contains(&number);
             for place in [0, 1, usize::MAX >> 8] {
                 let refusal = Refusal::of(number, place);
                 assert_eq!(refusal.is_some(), has_place || place == 0);
@@ -183,7 +188,7 @@ mod tests {
 
     #[test]
     fn no_other_number_is_a_refusal() {
-        for number in [0, 16, 64, 65, 255] {
+        for number in [0, 17, 64, 65, 255] {
             assert_eq!(Refusal::of(number, 0), None);
         }
     }
@@ -194,8 +199,8 @@ mod tests {
             Refusal::HashOutOfRange(7).to_string(),
             "refused by 7 at place 7: the cell's hash is N(depth) or more"
         );
-        let words = (1..=15).map(|number| Refusal::of(number, 0).unwrap().words());
+        let words = (1..=16).map(|number| Refusal::of(number, 0).unwrap().words());
         let different: std::collections::BTreeSet<_> = words.collect();
-        assert_eq!(different.len(), 15);
+        assert_eq!(different.len(), 16);
     }
 }

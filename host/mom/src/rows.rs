@@ -7,7 +7,7 @@
 //!
 //! The check and lookup take a map as count rows, at most [`MAX_ROWS`] of them. They read the rows
 //! where they stand and copy none. As with all functions of libmom_c.a their frames take less than
-//! 4 KiB of the stack, however many rows there are, and they take no other memory.
+//! 16 KiB of the stack, however many rows there are, and they take no other memory.
 //!
 //! ```
 //! use mom::rows;

@@ -4,8 +4,8 @@
 use std::fmt::Debug;
 
 use mom::{
-    add_counts, add_densities, chi2_count_merger, chi2_density_merger, from_zuniq, narrow, pool,
-    product, to_zuniq, Added, CountMerge, DensityMerge, Map, Refusal,
+    add_counts, add_densities, ask, chi2_count_merger, chi2_density_merger, commit, from_zuniq,
+    narrow, pool, product, to_zuniq, Added, CountMerge, DensityMerge, Map, Refusal,
 };
 
 type Cell = (u8, u64);
@@ -141,6 +141,21 @@ impl Quad {
         self.is_kept((z, c), [3, 6, 2, 2], 13)
     }
 
+    /// The same, asked for and then committed.
+    fn asked_pool_is_kept(&self, list: &[u64]) -> bool {
+        let (depth, _) = self.parent;
+        let (mut z, mut c) = ([5; 4], [5; 4]);
+        let parent = [zuniq(self.parent)];
+        let left = map(depth, &parent, &[10]);
+        let right = map(depth + 1, &self.zuniqs[1..2], &[3]);
+        let asked = ask(left, right, 0, INFINITY, list).unwrap();
+        assert_eq!((asked.cells, asked.total), (4, 13));
+        commit(left, right, 0, INFINITY, list, asked, &mut z, &mut c).unwrap();
+        let is_kept = self.is_kept((z, c), [3, 6, 2, 2], 13);
+        assert_eq!(asked.entries, if is_kept { 4 } else { 1 });
+        is_kept
+    }
+
     fn product_is_kept(&self, list: &[u64]) -> bool {
         let (depth, _) = self.parent;
         let (mut z, mut x) = ([5; 4], [5.5; 4]);
@@ -174,6 +189,7 @@ fn assert_quad(parent: Cell, protected: &[Cell], is_kept: bool) {
     assert_eq!(quad.counts_are_kept(list), is_kept, "{}", shown());
     assert_eq!(quad.densities_are_kept(list), is_kept, "{}", shown());
     assert_eq!(quad.pool_is_kept(list), is_kept, "{}", shown());
+    assert_eq!(quad.asked_pool_is_kept(list), is_kept, "{}", shown());
     assert_eq!(quad.product_is_kept(list), is_kept, "{}", shown());
     if parent.0 < narrow::MAX_DEPTH {
         let list = &narrow_list(protected);

@@ -8,6 +8,8 @@
 //!
 //! A call panics where the original does: under `checked` where its arithmetic overflows.
 
+use std::cell::Cell;
+
 use crate::nested::{
     self,
     map::{
@@ -315,7 +317,7 @@ pub fn pool<Z: ZUniqHashT>(
     t: f64,
     protects: impl Fn(u8, Z) -> bool,
 ) -> (u8, Vec<(Z, u32)>) {
-    pool_with(left, right, count_merger(m, t, protects))
+    pool_with(left, right, pool_rule, count_merger(m, t, protects))
 }
 
 pub fn pool_by_chi<Z: ZUniqHashT>(
@@ -325,16 +327,35 @@ pub fn pool_by_chi<Z: ZUniqHashT>(
     t: f64,
 ) -> (u8, Vec<(Z, u32)>) {
     let merger = new_chi2_count_merger_with_depth_threshold(t, m);
-    pool_with(left, right, merger)
+    pool_with(left, right, pool_rule, merger)
+}
+
+/// What note 8 has asked for: the number of overlay cells, which is how often the rule is handed one, and
+/// the entries after merging.
+pub fn pool_with_cells<Z: ZUniqHashT>(
+    left: MomVecImpl<Z, u32>,
+    right: MomVecImpl<Z, u32>,
+    m: u8,
+    t: f64,
+    protects: impl Fn(u8, Z) -> bool,
+) -> (usize, Vec<(Z, u32)>) {
+    let cells = Cell::new(0);
+    let rule = |counts| {
+        cells.set(cells.get() + 1);
+        pool_rule(counts)
+    };
+    let (_, entries) = pool_with(left, right, rule, count_merger(m, t, protects));
+    (cells.get(), entries)
 }
 
 fn pool_with<Z: ZUniqHashT>(
     left: MomVecImpl<Z, u32>,
     right: MomVecImpl<Z, u32>,
+    rule: impl Fn(LhsRhsBoth<u32>) -> Option<u32>,
     merger: impl Fn(u8, Z, [u32; 4]) -> Result<u32, [u32; 4]>,
 ) -> (u8, Vec<(Z, u32)>) {
     let split = |_, _, count| split_count(count);
-    let pooled = MomVecImpl::merge(left, right, split, pool_rule, merger);
+    let pooled = MomVecImpl::merge(left, right, split, rule, merger);
     (pooled.depth_max(), pooled.owned_entries().collect())
 }
 

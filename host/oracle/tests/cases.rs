@@ -132,6 +132,26 @@ fn the_pool_splits_the_larger_cell() {
     assert_eq!(pool(3.5), (1, zuniqs(&[(0, 0, 13)])));
 }
 
+/// Before merging, whichever map a cell is of: what is alone, split or in both counts once.
+#[test]
+fn each_overlay_cell_of_a_pool_is_counted_once() {
+    let (base, child) = (zuniqs(&[(0, 0, 10)]), zuniqs(&[(1, 1, 3)]));
+    let apart = zuniqs(&[(1, 0, 3), (1, 1, 6), (1, 2, 2), (1, 3, 2)]);
+    let count = |left: &[(u64, u32)], right: &[(u64, u32)], t, list: &[u64]| {
+        let (left, right) = (run::mom(1, left.to_vec()), run::mom(1, right.to_vec()));
+        run::pool_with_cells(left, right, 0, t, listed(list))
+    };
+    for (left, right) in [(&base, &child), (&child, &base)] {
+        assert_eq!(count(left, right, 2.0, &[]), (4, apart.clone()));
+        assert_eq!(count(left, right, 3.5, &[]), (4, zuniqs(&[(0, 0, 13)])));
+        let protected = list(&[(0, 0)]);
+        assert_eq!(count(left, right, 3.5, &protected), (4, apart.clone()));
+    }
+    assert_eq!(count(&base, &base, 3.5, &[]), (1, zuniqs(&[(0, 0, 20)])));
+    assert_eq!(count(&apart, &[], 3.5, &[]), (4, zuniqs(&[(0, 0, 13)])));
+    assert_eq!(count(&[], &[], 3.5, &[]), (0, vec![]));
+}
+
 #[test]
 fn the_pool_of_blank_maps_is_merged_no_shallower_than_m() {
     let maps = || {

@@ -1,15 +1,19 @@
 //! Pooling and multiplying. The original takes its two maps for its own: they are copied for it
 //! outside the time. Ours walks the overlay of lent maps into lent buffers, which hold what the
 //! round before left there and have just as many places as there are cells before merging. Under protected
-//! parents the original's merger stands behind a `binary_search`, as in adding.
+//! parents the original's merger stands behind a `binary_search`, as in adding. Last, what it takes to ask for
+//! a pool before it is done, beside the pool alone.
 
-use mom::Refusal;
+use mom::{Added, Figures, Refusal};
 use oracle::run;
 
 use super::Plan;
 use crate::{
     inputs::{count_map, density_map, parents_of, Map},
-    measure::{alone, contest, heading_with_extra, row_with_extra, timed, Extra},
+    measure::{
+        alone, contest, heading_of_asking, heading_with_extra, in_turns, row_of_asking,
+        row_with_extra, timed, Extra,
+    },
 };
 
 const CHI2: f64 = 7.815;
@@ -21,55 +25,147 @@ pub fn run(plan: Plan) {
     let number = 1_000_000 >> (2 * plan.shallower);
     let (left, right) = (count_map(depth, number, 1), count_map(depth, number, 2));
     let shallow = count_map(depth - 5, number, 3);
+    let pair = Pair {
+        left: &left,
+        right: &right,
+        chi2_threshold: CHI2,
+        protected: &[],
+    };
+    let apart = Pair {
+        chi2_threshold: -1.0,
+        ..pair
+    };
+    let deep = Pair {
+        left: &shallow,
+        ..pair
+    };
     heading_with_extra("Combining", "entry", "entries");
-    pool(plan, "pool, T 7.815", &left, &right, CHI2, &[]);
-    pool(plan, "pool, T -1", &left, &right, -1.0, &[]);
-    pool(
-        plan,
-        "pool, shallow with deep, T 7.815",
-        &shallow,
-        &right,
-        CHI2,
-        &[],
-    );
-    let maps = [&left, &right, &shallow].map(density_map);
-    let [left_densities, right_densities, shallow] = &maps;
-    product(
-        plan,
-        "product, T 7.815",
-        left_densities,
-        right_densities,
-        CHI2,
-    );
-    product(plan, "product, T -1", left_densities, right_densities, -1.0);
-    product(
-        plan,
-        "product, shallow with deep, T 7.815",
-        shallow,
-        right_densities,
-        CHI2,
-    );
+    pool(plan, "pool, T 7.815", pair);
+    pool(plan, "pool, T -1", apart);
+    pool(plan, "pool, shallow with deep, T 7.815", deep);
+    products(plan, [&left, &right, &shallow].map(density_map));
+    let lists = [0, 1, 1_000, 100_000].map(|protected| {
+        let cells = left.cells().chain(right.cells());
+        parents_of(cells, plan.smaller(protected))
+    });
     heading_with_extra("Pooling under protected parents", "entry", "entries");
-    for protected in [0, 1, 1_000, 100_000] {
-        let list = parents_of(left.cells().chain(right.cells()), plan.smaller(protected));
-        let work = format!("pool, T 7.815, {} protected", list.len());
-        pool(plan, &work, &left, &right, CHI2, &list);
+    for protected in &lists {
+        let work = format!("pool, T 7.815, {} protected", protected.len());
+        pool(plan, &work, Pair { protected, ..pair });
     }
+    heading_of_asking("Pooling, asked for before");
+    ask(plan, "T 7.815", pair);
+    ask(plan, "T -1", apart);
+    ask(plan, "shallow with deep, T 7.815", deep);
+    let [.., protected] = &lists;
+    let work = format!("T 7.815, {} protected", protected.len());
+    ask(plan, &work, Pair { protected, ..pair });
 }
 
-fn pool(plan: Plan, work: &str, left: &Map<u32>, right: &Map<u32>, t: f64, protected: &[u64]) {
-    let ours = |left: &Map<u32>, right: &Map<u32>, zuniqs: &mut [u64], counts: &mut [u32]| {
-        mom::pool(left.lent(), right.lent(), 0, t, protected, zuniqs, counts)
-            .map(|pooled| pooled.entries)
-    };
-    let original = |left: Vec<(u64, u32)>, right: Vec<(u64, u32)>, depths: (u8, u8)| {
-        let (left, right) = (run::mom(depths.0, left), run::mom(depths.1, right));
-        match protected {
+/// Two maps to be pooled, at an M of 0.
+#[derive(Clone, Copy)]
+struct Pair<'a> {
+    left: &'a Map<u32>,
+    right: &'a Map<u32>,
+    chi2_threshold: f64,
+    protected: &'a [u64],
+}
+
+type Entries<V> = Vec<(u64, V)>;
+
+impl Pair<'_> {
+    fn pool(&self, zuniqs: &mut [u64], counts: &mut [u32]) -> Result<Added, Refusal> {
+        let (left, right) = (self.left.lent(), self.right.lent());
+        let t = self.chi2_threshold;
+        mom::pool(left, right, 0, t, self.protected, zuniqs, counts)
+    }
+
+    fn ask(&self) -> Result<Figures, Refusal> {
+        let (left, right) = (self.left.lent(), self.right.lent());
+        mom::ask(left, right, 0, self.chi2_threshold, self.protected)
+    }
+
+    fn commit(
+        &self,
+        figures: Figures,
+        zuniqs: &mut [u64],
+        counts: &mut [u32],
+    ) -> Result<Added, Refusal> {
+        let (left, right) = (self.left.lent(), self.right.lent());
+        let t = self.chi2_threshold;
+        mom::commit(left, right, 0, t, self.protected, figures, zuniqs, counts)
+    }
+
+    /// Of the two maps as the original takes them.
+    fn original(&self, left: Entries<u32>, right: Entries<u32>) -> Entries<u32> {
+        let left = run::mom(self.left.depth, left);
+        let right = run::mom(self.right.depth, right);
+        let t = self.chi2_threshold;
+        match self.protected {
             [] => run::pool(left, right, 0, t, run::unprotected).1,
             list => run::pool(left, right, 0, t, run::searched(list)).1,
         }
+    }
+
+    fn original_figures(&self) -> Figures {
+        let [left, right] = [self.left, self.right].map(|map| run::mom(map.depth, map.entries()));
+        let (t, protects) = (self.chi2_threshold, run::searched(self.protected));
+        let (cells, entries) = run::pool_with_cells(left, right, 0, t, protects);
+        Figures {
+            cells,
+            entries: entries.len(),
+            total: entries.iter().map(|&(_, count)| count).sum(),
+        }
+    }
+}
+
+fn pool(plan: Plan, work: &str, pair: Pair) {
+    let ours = |left: &Map<u32>, right: &Map<u32>, zuniqs: &mut [u64], counts: &mut [u32]| {
+        let pair = Pair {
+            left,
+            right,
+            ..pair
+        };
+        pair.pool(zuniqs, counts).map(|pooled| pooled.entries)
     };
-    combine(plan, work, left, right, ours, original);
+    let original = |left, right, _| pair.original(left, right);
+    combine(plan, work, pair.left, pair.right, ours, original);
+}
+
+/// Times a pool, an ask, an ask followed by its commit, and the original's pool.
+fn ask(plan: Plan, work: &str, pair: Pair) {
+    let figures = pair.ask().unwrap();
+    assert_eq!(figures, pair.original_figures(), "{work}: answers differ");
+    let buffers = || (vec![0; figures.cells], vec![0; figures.cells]);
+    let (mut pooled, mut committed) = (buffers(), buffers());
+    let times = in_turns(
+        plan.rounds,
+        [
+            &mut || timed(|| pair.pool(&mut pooled.0, &mut pooled.1)),
+            &mut || timed(|| pair.ask()),
+            &mut || {
+                timed(|| {
+                    let figures = pair.ask()?;
+                    pair.commit(figures, &mut committed.0, &mut committed.1)
+                })
+            },
+            &mut || {
+                let (left, right) = (pair.left.entries(), pair.right.entries());
+                timed(|| pair.original(left, right))
+            },
+        ],
+    );
+    assert!(pooled == committed, "{work}: answers differ");
+    let work = format!("{work}: {} cells", figures.cells);
+    row_of_asking(&work, pair.left.len() + pair.right.len(), times);
+}
+
+/// Of two deep maps and a shallow one.
+fn products(plan: Plan, [left, right, shallow]: [Map<f64>; 3]) {
+    product(plan, "product, T 7.815", &left, &right, CHI2);
+    product(plan, "product, T -1", &left, &right, -1.0);
+    let work = "product, shallow with deep, T 7.815";
+    product(plan, work, &shallow, &right, CHI2);
 }
 
 fn product(plan: Plan, work: &str, left: &Map<f64>, right: &Map<f64>, chi2_threshold: f64) {

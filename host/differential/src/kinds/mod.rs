@@ -1,13 +1,15 @@
 //! Every kind of comparison, in the order of the scope's sections; then those of narrow maps, of rows laid
-//! out by byte column, and of coverages.
+//! out by byte column, of coverages, and of a pool that is asked for first.
 
 mod add_counts;
 mod add_densities;
 mod are_overlapping;
+mod ask;
 mod check_is_mom;
 mod chi;
 mod clip;
 mod columns;
+mod commit;
 mod count_merger;
 mod coverage;
 mod density_merger;
@@ -31,10 +33,12 @@ use crate::{
 };
 
 pub use are_overlapping::AreOverlapping;
+pub use ask::{Ask, Asked};
 pub use check_is_mom::{told, CheckIsMom};
 pub use chi::{CountChi, DensityChi};
 pub use clip::{Clip, Input as ClipInput, Piece};
 pub use columns::{Input as LayOutInput, LayOut, Step as LayOutStep, ToColumns, ToRows, Way};
+pub use commit::{Commit, Committed, Input as CommitInput};
 pub use count_merger::CountMerger;
 pub use coverage::{Cover, Input as CoverInput};
 pub use density_merger::DensityMerger;
@@ -109,4 +113,6 @@ pub static KINDS: &[Entry] = &[
     entry::<LayOut<ToRows>>(),
     entry::<Cover>(),
     entry::<Clip>(),
+    entry::<Ask>(),
+    entry::<Commit>(),
 ];

@@ -59,23 +59,35 @@ impl Combine for u32 {
     }
 
     fn original(input: &Input<u32>) -> Vec<(u64, u32)> {
-        let [left, right] = [&input.left, &input.right].map(|map| {
-            let entries = map.zuniqs.iter().copied().zip(map.values.iter().copied());
-            run::mom(map.depth, entries.collect())
-        });
+        let [left, right] = input.moms();
         let (m, t) = (input.depth_threshold, input.chi2_threshold.0);
         let (_, entries) = run::pool(left, right, m, t, run::listed(&input.protected));
         entries
     }
 }
 
-impl Call for u32 {
-    fn combine(input: &Input<u32>, zuniqs: &mut [u64], counts: &mut [u32]) -> Answer<u32> {
-        let [left, right] = [&input.left, &input.right].map(|map| Map {
+impl Input<u32> {
+    /// The two maps as the original takes them.
+    pub fn moms(&self) -> [run::MomVecImpl<u64, u32>; 2] {
+        [&self.left, &self.right].map(|map| {
+            let entries = map.zuniqs.iter().copied().zip(map.values.iter().copied());
+            run::mom(map.depth, entries.collect())
+        })
+    }
+
+    /// The two maps as they are lent to our calls.
+    pub fn maps(&self) -> [Map<'_, u32>; 2] {
+        [&self.left, &self.right].map(|map| Map {
             depth: map.depth,
             zuniqs: &map.zuniqs,
             values: &map.values,
-        });
+        })
+    }
+}
+
+impl Call for u32 {
+    fn combine(input: &Input<u32>, zuniqs: &mut [u64], counts: &mut [u32]) -> Answer<u32> {
+        let [left, right] = input.maps();
         let (m, t) = (input.depth_threshold, input.chi2_threshold.0);
         let list = &input.protected;
         let Added { entries, total } = mom::pool(left, right, m, t, list, zuniqs, counts)?;

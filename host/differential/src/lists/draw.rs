@@ -22,7 +22,7 @@ pub struct List<V> {
     pub chi2_threshold: Float,
 }
 
-#[derive(Debug, PartialEq, Eq, PartialOrd, Ord)]
+#[derive(Clone, Debug, PartialEq, Eq, PartialOrd, Ord)]
 pub struct Input<V, Z = u64> {
     pub(super) calls: Vec<Call<V, Z>>,
     pub depth: u8,
@@ -167,10 +167,9 @@ impl<V: Value> List<V> {
     }
 }
 
-/// None; each parent of the small lists' cells; a parent's parent; a parent with its parent; a cell that is
-/// no parent but of a smaller one; and one that lies outside.
-const SMALL_PROTECTED: [&[Cell]; 6] = [
-    &[],
+/// Each parent of the small lists' cells; a parent's parent; a parent with its parent; a cell that is no parent
+/// but of a smaller one; and one that lies outside.
+const SMALL_PROTECTED: [&[Cell]; 5] = [
     &[Cell { depth: 0, hash: 0 }],
     &[Cell { depth: 0, hash: 1 }, Cell { depth: 1, hash: 0 }],
     &[Cell { depth: 1, hash: 3 }],
@@ -179,16 +178,17 @@ const SMALL_PROTECTED: [&[Cell]; 6] = [
 ];
 
 impl<V: Value, Z: Width> Input<V, Z> {
-    /// The small lists, cut at every point, under each of some lists of protected parents.
+    /// The small lists, cut at every point; some of them also under a list of protected parents.
     pub(super) fn small() -> impl Iterator<Item = Self> {
-        List::small().flat_map(|list| {
+        let inputs = List::small().flat_map(|list| {
             let cuts = 0..=list.hashes.len();
-            cuts.flat_map(move |cut| {
-                let inputs = SMALL_PROTECTED.iter().map(|protected| Input {
-                    protected: protected::list_of(protected),
-                    ..Self::in_two(&list, cut)
-                });
-                inputs.collect::<Vec<_>>()
+            cuts.map(move |cut| Self::in_two(&list, cut))
+        });
+        protected::with_lists(inputs, |input, list| {
+            let protected = protected::list_of(SMALL_PROTECTED.get(list)?);
+            Some(Input {
+                protected,
+                ..input.clone()
             })
         })
     }

@@ -14,14 +14,39 @@ use crate::{
 
 impl<V: Combine> Input<V> {
     /// All pairs of maps in the first base cell down to depth 1, with few values, and with nothing but
-    /// 0; and an entry of any depth in one of any other, at both ends and in between. All of them also
-    /// under lists that protect a parent, or what might be taken for it.
+    /// 0; and an entry of any depth in one of any other, at both ends and in between. Some of them also
+    /// under a list that protects a parent, or what might be taken for it.
     pub(super) fn small() -> impl Iterator<Item = Self> {
         let settings = [(0, 0.0), (0, 3.5), (0, f64::INFINITY), (1, f64::INFINITY)];
         let few = in_a_base_cell(V::few(), settings);
         let settings = [(0, 0.0), (1, 0.0), (0, -1.0), (0, f64::NEG_INFINITY)];
         let blank = in_a_base_cell(&[V::ZERO], settings);
-        few.chain(blank).chain(nested())
+        let nested = nested(&[f64::NEG_INFINITY, f64::INFINITY]);
+        protected::with_lists(few.chain(blank), Self::under_base_cell)
+            .chain(protected::with_lists(nested, Self::under_nested))
+    }
+
+    /// Under the base cell; its first child; or both, and what lies outside.
+    fn under_base_cell(&self, list: usize) -> Option<Self> {
+        let base = Cell { depth: 0, hash: 0 };
+        let [child, ..] = base.children();
+        let lists = [&[base][..], &[child], &[child, base.neighbour(), base]];
+        Some(self.under(lists.get(list)?))
+    }
+
+    /// Under the larger of the two entries; or the smaller one, and a cell between them.
+    fn under_nested(&self, list: usize) -> Option<Self> {
+        let [over, under] = [&self.left, &self.right].map(|map| map.entries()[0].0);
+        let middle = under.ancestor((over.depth + under.depth) / 2);
+        let lists = [&[over][..], &[middle, under]];
+        Some(self.under(lists.get(list)?))
+    }
+
+    fn under(&self, list: &[Cell]) -> Self {
+        Input {
+            protected: protected::list_of(list),
+            ..self.clone()
+        }
     }
 
     /// With no place.
@@ -36,15 +61,6 @@ impl<V: Combine> Input<V> {
             protected: vec![],
             content: u64::MAX,
         }
-    }
-
-    /// Without a list, and under each of these.
-    fn under<const N: usize>(self, lists: [&[Cell]; N]) -> Vec<Self> {
-        let listed = lists.into_iter().map(|list| Input {
-            protected: protected::list_of(list),
-            ..self.clone()
-        });
-        listed.chain([self.clone()]).collect()
     }
 
     /// With places for all, and one more.
@@ -185,19 +201,14 @@ impl<V: Value, Z: Width> Given<V, Z> {
 }
 
 /// All pairs of maps of the first base cell down to depth 1 with these values, at each M and T.
-fn in_a_base_cell<V: Combine>(
+pub fn in_a_base_cell<V: Combine, const N: usize>(
     few: &[V],
-    settings: [(u8, f64); 4],
+    settings: [(u8, f64); N],
 ) -> impl Iterator<Item = Input<V>> {
     let maps = maps_of_a_base_cell(few);
     (0..maps.len() * maps.len()).flat_map(move |pair| {
         let (left, right) = (&maps[pair / maps.len()], &maps[pair % maps.len()]);
-        let inputs = settings.map(|(m, t)| Input::new(left.clone(), right.clone(), m, t));
-        let base = Cell { depth: 0, hash: 0 };
-        let [child, ..] = base.children();
-        let lists = [&[base][..], &[child], &[child, base.neighbour(), base]];
-        let inputs = inputs.map(|input| input.with_places().under(lists));
-        inputs.into_iter().flatten()
+        settings.map(|(m, t)| Input::new(left.clone(), right.clone(), m, t).with_places())
     })
 }
 
@@ -215,23 +226,19 @@ fn maps_of_a_base_cell<V: Combine>(few: &[V]) -> Vec<Given<V>> {
     whole.chain(parts).collect()
 }
 
-/// An entry in another one, of every two depths: the larger one is split through all between.
-fn nested<V: Combine>() -> impl Iterator<Item = Input<V>> {
+/// An entry in another one, of every two depths, at each T: the larger one is split through all between.
+pub fn nested<V: Combine>(thresholds: &'static [f64]) -> impl Iterator<Item = Input<V>> {
     let depths = (0..=DEPTH_MAX).flat_map(|top| (top..=DEPTH_MAX).map(move |depth| (top, depth)));
-    depths.flat_map(|(top, bottom)| {
+    depths.flat_map(move |(top, bottom)| {
         let ways = [(0, 0), (11, u64::MAX), (6, 0x1b1b_1b1b_1b1b_1b1b)];
         ways.into_iter().flat_map(move |(hash, path)| {
             let over = Cell { depth: 0, hash }.descendant(top, path);
             let under = over.descendant(bottom, path);
             let values = V::few().iter().copied().chain([V::ZERO]);
             values.flat_map(move |value| {
-                let map = |cell: Cell| Given::new(cell.depth, &[cell], vec![value]);
-                let inputs = [f64::NEG_INFINITY, f64::INFINITY];
-                let inputs = inputs.map(|t| Input::new(map(over), map(under), 0, t).with_places());
-                let middle = under.ancestor((top + bottom) / 2);
-                inputs
-                    .into_iter()
-                    .flat_map(move |input| input.under([&[over], &[middle, under]]))
+                let map = move |cell: Cell| Given::new(cell.depth, &[cell], vec![value]);
+                let pair = move |&t| Input::new(map(over), map(under), 0, t).with_places();
+                thresholds.iter().map(pair)
             })
         })
     })

@@ -2,11 +2,14 @@
 //! of both orders, are compared with what the original's `merge` makes of the maps and with the
 //! scope's table of refusals.
 
+mod asking;
 mod draw;
 mod overlay;
 mod table;
 
 use std::{fmt, marker::PhantomData};
+
+use mom::Refusal;
 
 use crate::{
     cells::Cell,
@@ -17,7 +20,8 @@ use crate::{
     widths::Width,
 };
 
-pub use draw::cells as two_maps;
+pub use asking::Pooled;
+pub use draw::{cells as two_maps, in_a_base_cell, nested};
 pub use overlay::{overlay, Seen};
 
 /// What two maps hold that are combined.
@@ -113,21 +117,25 @@ impl<V: Combine> Input<V> {
         (answer, zuniqs, values)
     }
 
-    /// What the table says or else what the original makes of the maps, with zeros behind it.
+    /// What the table says or else what the original makes of the maps.
     pub fn judged(&self) -> Step<V> {
-        let refusal = self.refusal();
+        match self.refusal() {
+            Some(refusal) => self.left_by(Err(refusal)),
+            None => self.left_by(Ok(&V::original(self))),
+        }
+    }
+
+    /// An answer with what it leaves: both buffers as they were, or the entries with zeros behind them.
+    pub fn left_by(&self, answer: Result<&[(u64, V)], Refusal>) -> Step<V> {
         self.step(|zuniqs, values| {
-            if let Some(refusal) = refusal {
-                return Err(refusal);
-            }
-            let entries = V::original(self);
+            let entries = answer?;
             zuniqs.fill(0);
             values.fill(V::ZERO);
             for (place, &(zuniq, value)) in entries.iter().enumerate() {
                 zuniqs[place] = zuniq;
                 values[place] = value;
             }
-            Ok((entries.len(), V::total(&entries)))
+            Ok((entries.len(), V::total(entries)))
         })
     }
 }

@@ -1,6 +1,7 @@
-//! The judge of refusals: the scope's table, for pool and product calls.
+//! The judge of refusals: the scope's table, for pool and product calls, and for what note 8 of 02 makes of
+//! a pool.
 
-use mom::Refusal;
+use mom::{Figures, Refusal};
 
 use super::{overlay, Combine, Given, Input};
 use crate::{
@@ -37,17 +38,21 @@ impl<V: Combine> Input<V> {
     /// The same, with another reading of row 15.
     pub fn refusal_by(&self, faulty_place: fn(&[u64]) -> Option<usize>) -> Option<Refusal> {
         let (number, place) = self
-            .refused_setting(faulty_place)
+            .refused_setting(self.places, faulty_place)
             .or_else(|| self.refused_entry())
             .or_else(|| self.refused_kept().map(|number| (number, 0)))?;
         Some(Refusal::of(number, place).unwrap())
     }
 
-    /// Rows 1 to 4, 15 being tried after 3.
-    fn refused_setting(&self, faulty_place: fn(&[u64]) -> Option<usize>) -> Option<(u8, usize)> {
+    /// Rows 1 to 4 of an output of so many places, 15 being tried after 3.
+    fn refused_setting(
+        &self,
+        places: [usize; 2],
+        faulty_place: fn(&[u64]) -> Option<usize>,
+    ) -> Option<(u8, usize)> {
         let maps = [&self.left, &self.right];
         let differ = maps.map(|map| map.zuniqs.len() != map.values.len());
-        let lengths_differ = differ[0] || differ[1] || self.places[0] != self.places[1];
+        let lengths_differ = differ[0] || differ[1] || places[0] != places[1];
         let rows = [
             (1, maps.iter().any(|map| map.depth > DEPTH_MAX)),
             (2, self.depth_threshold > DEPTH_MAX),
@@ -86,5 +91,32 @@ impl<V: Combine> Input<V> {
             return Some(10);
         }
         (self.places[0] < kept.len()).then_some(11)
+    }
+}
+
+impl Input<u32> {
+    /// Rows 1 to 3, 15, 4, 5 and 10. An ask "writes nothing": there is no output whose lengths could differ.
+    pub fn refusal_of_ask(&self) -> Option<Refusal> {
+        self.refusal_of_input([0; 2])
+    }
+
+    /// The same rows with the output's lengths in row 4, as a pool has them; then 16, where the figures
+    /// given are not those asked for; then 11.
+    pub fn refusal_of_commit(&self, given: Figures, asked: Option<Figures>) -> Option<Refusal> {
+        self.refusal_of_input(self.places).or_else(|| {
+            let asked = asked.expect("no refusal of an ask where there is none of its commit");
+            let rows = [(16, given != asked), (11, self.places[0] < asked.cells)];
+            let row = rows.into_iter().find(|&(_, refused)| refused);
+            row.map(|(number, _)| Refusal::of(number, 0).unwrap())
+        })
+    }
+
+    fn refusal_of_input(&self, places: [usize; 2]) -> Option<Refusal> {
+        let exceed = || u32::exceed(&self.left.values, &self.right.values).then_some((10, 0));
+        let (number, place) = self
+            .refused_setting(places, faulty_place)
+            .or_else(|| self.refused_entry())
+            .or_else(exceed)?;
+        Some(Refusal::of(number, place).unwrap())
     }
 }

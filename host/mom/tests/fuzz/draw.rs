@@ -2,6 +2,8 @@
 
 use std::ops::Range;
 
+use mom::Figures;
+
 use super::plain::{cell_of, hashes, overlap_test, Cell, Setting, Zuniq};
 
 pub struct Draw(u64);
@@ -574,6 +576,30 @@ impl Draw {
         }
         let right = counts.split_off(left);
         [counts, right]
+    }
+
+    /// Figures to commit a pool by, half of them those asked; else mostly one of the three is another.
+    pub fn figures(&mut self, asked: Figures) -> Figures {
+        let mut figures = asked;
+        for _ in 0..[0, 0, 0, 1, 1, 2][self.below(6)] {
+            match self.below(3) {
+                0 => figures.cells = self.figure(asked.cells, asked.entries),
+                1 => figures.entries = self.figure(asked.entries, asked.cells),
+                _ => figures.total = self.figure(asked.total as usize, 0) as u32,
+            }
+        }
+        figures
+    }
+
+    /// A number beside this one, one bit away from it, the other one, or any.
+    fn figure(&mut self, right: usize, other: usize) -> usize {
+        match self.below(8) {
+            0..=1 => right.wrapping_add(1),
+            2..=3 => right.wrapping_sub(1),
+            4..=5 => right ^ 1 << self.below(usize::BITS as usize),
+            6 => other,
+            _ => self.few_bits::<u64>() as usize,
+        }
     }
 
     /// A map to be moved, mostly with entries down to a depth about 13, which is the largest of a

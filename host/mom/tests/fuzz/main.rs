@@ -4,6 +4,7 @@
 //!
 //! Each test makes a thousand rounds, and goes on for as long as MOM_FUZZ_SECONDS says.
 
+mod asking;
 mod columns;
 mod draw;
 mod moving;
@@ -18,6 +19,7 @@ use std::{
     time::{Duration, Instant},
 };
 
+use asking::Asking;
 use draw::{AddCall, Draw, Side};
 use mom::{rows, CountMerge, DensityMerge, Map, MapCheck, Refusal};
 use plain::{Setting, Zuniq};
@@ -405,6 +407,7 @@ fn merges_blanks(overlay: &[u64], zuniqs: &[u64], counts: &[u32]) -> bool {
 fn combining() {
     let (mut pools, mut products) = (Met::default(), Met::default());
     let (mut of_counts, mut of_densities) = (Protected::default(), Protected::default());
+    let mut asking = Asking::default();
     // Pools in which blank sky is merged though its chi is not below T.
     let mut blank = 0;
     rounds("combining", |draw| {
@@ -431,6 +434,7 @@ fn combining() {
             of_counts.add(list, &before, &z, &with_no_list);
         }
         assert_eq!((answer, z, n), expected, "{call:?} {l:?} {r:?}");
+        asking.round(draw, &call, [&l, &r]);
 
         let l = draw.densities_of(left.values);
         let r = draw.densities_of(right.values);
@@ -452,5 +456,6 @@ fn combining() {
     of_counts.assert_counts("combining");
     of_densities.assert_densities("combining");
     pools.assert_all(&[0, 1, 2, 3, 4, 5, 10, 11, 15]);
+    asking.assert_all();
     products.assert_all(&[0, 1, 2, 3, 4, 5, 6, 10, 11, 15]);
 }

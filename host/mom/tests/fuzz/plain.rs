@@ -3,7 +3,7 @@
 
 use std::{fmt::Debug, ops::Range};
 
-use mom::{Fault, MapCheck, Refusal};
+use mom::{Fault, Figures, MapCheck, Refusal};
 
 use super::draw::{AddCall, ClipCall, CombineCall, LayoutCall, Side};
 
@@ -483,11 +483,15 @@ fn check_settings(call: &CombineCall, k: f64) -> Answer<()> {
     call.setting().check_protected()
 }
 
-fn check_sides<V>(sides: &[Side<u64>; 2], values: [&[V]; 2], z: &[u64], out: &[V]) -> Answer<()> {
+fn check_sides<V>(
+    sides: &[Side<u64>; 2],
+    values: [&[V]; 2],
+    [zuniqs, out]: [usize; 2],
+) -> Answer<()> {
     let [left, right] = sides;
     refuse_if(left.zuniqs.len() != values[0].len(), 4, 0)?;
     refuse_if(right.zuniqs.len() != values[1].len(), 4, 0)?;
-    refuse_if(z.len() != out.len(), 4, 0)?;
+    refuse_if(zuniqs != out, 4, 0)?;
     for side in sides {
         if let Some((place, _)) = first_fault(side.depth, &side.zuniqs) {
             return refused(5, place);
@@ -509,32 +513,84 @@ fn merged<V: Copy + Default>(
     buffers(&entries, places)
 }
 
+/// 1 to 3, 15, 4, 5 and 10, into an output of these two lengths.
+fn check_pool(call: &CombineCall, values: [&[u32]; 2], places: [usize; 2]) -> Answer<()> {
+    check_settings(call, 1.0)?;
+    check_sides(&call.sides, values, places)?;
+    let total: u64 = values.concat().iter().map(|&n| n as u64).sum();
+    refuse_if(total > u32::MAX as u64, 10, 0)
+}
+
+/// The overlay cells with their counts.
+fn pooled(call: &CombineCall, values: [&[u32]; 2]) -> Vec<(Cell, u32)> {
+    let split = |v: u32, child: u64| v / 4 + (child < (v % 4) as u64) as u32;
+    let rule = |left: Option<u32>, right: Option<u32>| match (left, right) {
+        (Some(left), Some(right)) => Some(left + right),
+        (alone, None) | (None, alone) => alone,
+    };
+    ruled(&call.sides, values, split, rule)
+}
+
+/// What is made of these cells in so many places, with the number of entries and their total.
+fn merged_counts(
+    call: &CombineCall,
+    cells: &[(Cell, u32)],
+    places: usize,
+) -> (Vec<u64>, Vec<u32>, (usize, u32)) {
+    let merge = |parent, counts| call.setting().merge_counts(parent, counts).ok();
+    let (zuniqs, counts, number) = merged(cells, places, merge);
+    let total = counts.iter().sum();
+    (zuniqs, counts, (number, total))
+}
+
 pub fn pool(
     call: &CombineCall,
     values: [&[u32]; 2],
     z: &[u64],
     counts: &[u32],
 ) -> Left<(usize, u32), u64, u32> {
-    let split = |v: u32, child: u64| v / 4 + (child < (v % 4) as u64) as u32;
-    let rule = |left: Option<u32>, right: Option<u32>| match (left, right) {
-        (Some(left), Some(right)) => Some(left + right),
-        (alone, None) | (None, alone) => alone,
-    };
     let check = || {
-        check_settings(call, 1.0)?;
-        check_sides(&call.sides, values, z, counts)?;
-        let total: u64 = values.concat().iter().map(|&n| n as u64).sum();
-        refuse_if(total > u32::MAX as u64, 10, 0)?;
-        let cells = ruled(&call.sides, values, split, rule);
+        check_pool(call, values, [z.len(), counts.len()])?;
+        let cells = pooled(call, values);
         refuse_if(z.len() < cells.len(), 11, 0)?;
-        Ok((cells, total as u32))
+        Ok(cells)
     };
     match check() {
-        Ok((cells, total)) => {
-            let merge = |parent, counts| call.setting().merge_counts(parent, counts).ok();
-            let (zuniqs, counts, number) = merged(&cells, z.len(), merge);
-            (Ok((number, total)), zuniqs, counts)
+        Ok(cells) => {
+            let (zuniqs, counts, answer) = merged_counts(call, &cells, z.len());
+            (Ok(answer), zuniqs, counts)
         }
+        Err(refusal) => (Err(refusal), z.to_vec(), counts.to_vec()),
+    }
+}
+
+/// "Ask answers the number of overlay cells, of entries after merging, and the total; it writes nothing."
+/// (Request 8.) There is no output whose lengths could differ.
+pub fn ask(call: &CombineCall, values: [&[u32]; 2]) -> Answer<Figures> {
+    check_pool(call, values, [0, 0])?;
+    let parts = pooled(call, values);
+    let cells = parts.len();
+    let (_, _, (entries, total)) = merged_counts(call, &parts, cells);
+    Ok(Figures {
+        cells,
+        entries,
+        total,
+    })
+}
+
+/// "Commit takes those figures with the same inputs and pools." "16, the figures are not those an ask would
+/// answer, tried after 10." (Request 8.)
+pub fn commit(
+    call: &CombineCall,
+    values: [&[u32]; 2],
+    figures: Figures,
+    z: &[u64],
+    counts: &[u32],
+) -> Left<(usize, u32), u64, u32> {
+    let check = check_pool(call, values, [z.len(), counts.len()])
+        .and_then(|()| refuse_if(ask(call, values) != Ok(figures), 16, 0));
+    match check {
+        Ok(()) => pool(call, values, z, counts),
         Err(refusal) => (Err(refusal), z.to_vec(), counts.to_vec()),
     }
 }
@@ -547,7 +603,7 @@ pub fn product(
 ) -> Left<usize, u64, f64> {
     let check = || {
         check_settings(call, call.k)?;
-        check_sides(&call.sides, values, z, densities)?;
+        check_sides(&call.sides, values, [z.len(), densities.len()])?;
         for side in values {
             if let Some(place) = side.iter().position(|&x| invalid(x)) {
                 return refused(6, place);

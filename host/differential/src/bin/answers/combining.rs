@@ -1,12 +1,13 @@
-//! Section 5: pools and products of small maps.
+//! Section 5: pools and products of small maps; and pools that are asked for before they are done.
 
 use differential::{
     cells::Cell,
     floats::Float,
     lists::Value,
-    pairs::{Combine, Given, Input},
+    pairs::{Combine, Given, Input, Pooled},
     random::Random,
 };
+use mom::Figures;
 use oracle::run;
 
 use crate::{building::buffers, Line, Number, MOST_PROTECTED};
@@ -114,23 +115,82 @@ fn line<V: Combine + Number>(
     entries: &[(u64, V)],
     total: impl Fn(Line, &[(u64, V)]) -> Line,
 ) -> Line {
-    let places = input.kept().len() + 1;
-    let (zuniqs, values) = buffers(&[], places, 2u64, V::of_content(3));
-    let mut line = with_map(Line::new(V::CALL), &input.left);
+    into_output(arguments(V::CALL, input), input, entries, total)
+}
+
+/// What is handed to a call, up to its protected parents.
+fn arguments<V: Combine + Number>(word: &'static str, input: &Input<V>) -> Line {
+    let mut line = with_map(Line::new(word), &input.left);
     line = with_map(line, &input.right)
         .with(input.depth_threshold)
         .with(input.chi2_threshold);
-    if V::CALL == "product" {
+    if word == "product" {
         line = line.with(input.factor);
     }
-    line = line
-        .with_list(&input.protected)
-        .with_list(&zuniqs)
-        .with_list(&values);
+    line.with_list(&input.protected)
+}
+
+/// The output as it is lent, with one place more than are needed, and the answer with the output as it is left.
+fn into_output<V: Combine + Number>(
+    line: Line,
+    input: &Input<V>,
+    entries: &[(u64, V)],
+    total: impl Fn(Line, &[(u64, V)]) -> Line,
+) -> Line {
+    let places = input.kept().len() + 1;
+    let (zuniqs, values) = buffers(&[], places, 2u64, V::of_content(3));
+    let line = line.with_list(&zuniqs).with_list(&values);
     let (zuniqs, values) = buffers(entries, places, 0, V::ZERO);
     total(line.with(entries.len()), entries)
         .with_list(&zuniqs)
         .with_list(&values)
+}
+
+/// Asks and commits: the stored sample has room for few, of few entries and, where the output stands in the
+/// line, of few cells.
+const ASKED: usize = 6;
+const COMMITTED: usize = 4;
+const MOST_ENTRIES: usize = 4;
+const MOST_CELLS: usize = 4;
+
+/// Note 8 of 02: the figures, the cells being those that the original's rule is handed, and commits of them.
+pub fn print_asked(random: &mut Random) {
+    for number in 0..ASKED {
+        let (input, pooled) = draw_asked(random, number, usize::MAX);
+        with_figures(arguments("ask", &input), pooled.figures()).print();
+    }
+    for number in 0..COMMITTED {
+        let (input, pooled) = draw_asked(random, number, MOST_CELLS);
+        let line = with_figures(arguments("commit", &input), pooled.figures());
+        into_output(line, &input, &pooled.entries, with_total).print();
+    }
+}
+
+fn with_figures(line: Line, figures: Figures) -> Line {
+    line.with(figures.cells)
+        .with(figures.entries)
+        .with(figures.total)
+}
+
+/// A pair of few entries that meet. One in four comes out otherwise without its list, and half have quads that
+/// merge.
+fn draw_asked(random: &mut Random, number: usize, most_cells: usize) -> (Input<u32>, Pooled) {
+    loop {
+        let mut input = Input::<u32>::any(random);
+        input.protected.truncate(MOST_PROTECTED);
+        let entries = input.left.zuniqs.len() + input.right.zuniqs.len();
+        let Ok(pooled) = input.asked() else {
+            continue;
+        };
+        let is_chosen = match number % 4 {
+            1 => is_protected(&input),
+            3 => true,
+            _ => pooled.entries.len() < pooled.cells,
+        };
+        if is_chosen && entries <= MOST_ENTRIES && pooled.cells <= most_cells && meet(&input) {
+            return (input, pooled);
+        }
+    }
 }
 
 fn with_map<V: Value + Number>(line: Line, map: &Given<V>) -> Line {

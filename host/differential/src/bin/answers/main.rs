@@ -29,6 +29,7 @@ fn main() {
     rows::print(&mut random(7), 16);
     print_narrow(&mut random(8));
     print_blank();
+    combining::print_asked(&mut random(9));
 }
 
 /// Narrow maps, and moving between the widths.
@@ -48,7 +49,7 @@ fn print_blank() {
     combining::print_blank();
 }
 
-/// The numbers that the arguments of a section are drawn from; 8 is for narrow maps.
+/// The numbers that the arguments of a section are drawn from; 8 is for narrow maps, 9 for asking.
 fn random(section: u64) -> Random {
     Random::part(1, section)
 }
