@@ -1,12 +1,12 @@
 -- The starred cases of the scope and those of the requests, as one joint table: each row is a test that is computed from the
 -- definitions that the contracts of the calls use, and all of them hold. Assumes nothing.
 use mathlib.Core.Path.{_≡_, refl}
-use mathlib.Core.Bool.{Bool, true, false, _&&_}
+use mathlib.Core.Bool.{Bool, true, false, not, _&&_}
 use mathlib.Core.List.{List, [], _∷_, _++_}
 use mathlib.Core.Option.{Option, none, some}
 use Prim.Native.Nat.{ℕ, zero, suc, _+_, _-_}
 use lib.Dec.{eqb}
-use lib.IntN.{pos, negsuc}
+use lib.IntN.{ℤ, pos, negsuc, negℤ}
 use lib.ListN.{length}
 use lib.Ieee as Ieee
 use lib.Ieee.{Float, nan, inf, fin, isNan}
@@ -19,6 +19,7 @@ use Rattle.zuniq.specs.declared.Decoded.{Decoded}
 use Rattle.protection.specs.Protected.{isListed, isProtected, refusalFrom, protectedRefusal}
 use Rattle.merger.specs.Floats.{0·0, 1·0, invalidDensity}
 use Rattle.merger.specs.Merge.{chiOfCounts, mergeByChi, mergeCounts, mergedCount, acceptCounts, quadRefusal, countMerger}
+use Rattle.merger.specs.ChiError.{Fraction, exactValue, productOf, triplesOf, distance, chiWithin, chiExact}
 use Rattle.merger.specs.declared.CountMerge.{CountMerge}
 use Rattle.merger.specs.declared.CountMerger.{CountMerger}
 use Rattle.mom.specs.Map.{isYes, overlaps, faultAfter, faultOf, faultAt, atOr, faultFrom, firstFault}
@@ -573,7 +574,69 @@ note8 =
     ∷ refusesAdd 4 0 (commitCounts [] ten three 0 3·5 (figures 3 1 13) (times 4 9) (times 3 9))
     ∷ []
 
+-- ---- note 9: how near the chi-square is
+-- the exact number that an f64 stands for is n / d
+standsFor : ℤ → ℕ → Float → Bool
+standsFor n d x = is (exactValue x)
+  where
+    is : Option Fraction → Bool
+    is none = false
+    is (some q) = eqb (distance (q .numerator) n) 0 && eqb (q .denominator) d
+
+-- the chi of four counts is within S / 2^50, and is not within S / 2^k
+near : ℕ → ℕ → ℕ → ℕ → Bool
+near n0 n1 n2 n3 = chiWithin 50 (chiOfCounts n0 n1 n2 n3) n0 n1 n2 n3
+
+notWithin : ℕ → ℕ → ℕ → ℕ → ℕ → Bool
+notWithin k n0 n1 n2 n3 = not (chiWithin k (chiOfCounts n0 n1 n2 n3) n0 n1 n2 n3)
+
+isTotal : ℕ → ℕ → ℕ → ℕ → Bool
+isTotal n0 n1 n2 n3 = chiExact (chiOfCounts n0 n1 n2 n3) n0 n1 n2 n3
+
+pub note9 : List Bool
+unfolding standsFor near notWithin isTotal chiWithin chiExact keptWith mergedTo 3·0 isListed isProtected refusalFrom protectedRefusal quadRefusal nHash
+note9 =
+    -- "chi being taken as the exact number that the f64 stands for"; NaN and infinity stand for none
+    standsFor (pos 3) 1 (chiOfCounts 1 2 4 4)
+    ∷ standsFor (pos 1306043891937443) 562949953421312 (chiOfCounts 1 2 3 4)
+    ∷ standsFor (negℤ (pos 1)) 35184372088832 (chiOfCounts 49 49 49 49)
+    ∷ not (chiWithin 50 nan 1 2 3 4)
+    ∷ not (chiWithin 50 (inf false) 1 2 3 4)
+    -- 1, 2, 4 and 4: S = 11, P = 32 and E = 64, so that S × E − 16 × P is 192, exactly 3 × E
+    ∷ keptWith 3·0 (countMerger [] 0 3·0 1 0 1 2 4 4)
+    ∷ eqb (triplesOf 1 2 4 4) 64
+    ∷ eqb (productOf 1 2 4 4) 32
+    ∷ chiWithin 1000 (chiOfCounts 1 2 4 4) 1 2 4 4
+    -- 1, 2, 3 and 4, of which the exact number is 2.32, and four equal counts, of which it is 0: once chi is 0, and once below it
+    ∷ near 1 2 3 4
+    ∷ near 1 1 1 1
+    ∷ near 49 49 49 49
+    -- so that at T = 0 the one four are merged, and other equal ones kept
+    ∷ mergedTo 196 (countMerger [] 0 0·0 1 0 49 49 49 49)
+    ∷ keptWith 0·0 (countMerger [] 0 0·0 1 0 4 4 4 4)
+    -- "with total S at most 4,294,967,295"
+    ∷ near 1073741823 1073741824 1073741824 1073741824
+    ∷ near 1 1 1 4294967292
+    ∷ near 4294967292 1 1 1
+    -- 2^53 in place of 2^50, and 2^52, is too much
+    ∷ notWithin 53 1 2 3 4
+    ∷ notWithin 53 49 49 49 49
+    ∷ notWithin 52 523355 524031 523745 523475
+    -- other numbers are not that near: 2 and 3 for 2.32, and 0 for 3
+    ∷ not (chiWithin 50 2·0 1 2 3 4)
+    ∷ not (chiWithin 50 3·0 1 2 3 4)
+    ∷ not (chiWithin 50 0·0 1 2 4 4)
+    -- "With a zero among them chi is exactly S"
+    ∷ isTotal 0 0 0 0
+    ∷ isTotal 0 2 4 4
+    ∷ isTotal 1 2 4 0
+    ∷ isTotal 5 0 0 7
+    ∷ isTotal 4294967295 0 0 0
+    ∷ isTotal 1431655765 1431655765 0 1431655765
+    ∷ not (isTotal 1 2 4 4)
+    ∷ []
+
 -- ---- all of them
-pub starred-cases : every (section1 ++ (section2 ++ (section4 ++ (section5 ++ (note1 ++ (note2 ++ (note3 ++ (note4 ++ (note6 ++ (note7 ++ note8)))))))))) ≡ true
-unfolding every section1 section2 section4 section5 note1 note2 note3 note4 note6 note7 note8
+pub starred-cases : every (section1 ++ (section2 ++ (section4 ++ (section5 ++ (note1 ++ (note2 ++ (note3 ++ (note4 ++ (note6 ++ (note7 ++ (note8 ++ note9))))))))))) ≡ true
+unfolding every section1 section2 section4 section5 note1 note2 note3 note4 note6 note7 note8 note9
 starred-cases = refl

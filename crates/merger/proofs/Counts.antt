@@ -1,22 +1,23 @@
 -- The chi-square of counts in f64. Whole numbers up to 2^53 and their sums are exact, which four u32s are far below; chi is no
 -- NaN, and it is exactly the sum where a count is 0. Assumes nothing.
 use mathlib.Core.Path.{_≡_, refl, sym, ap, _∙_}
-use mathlib.Core.Bool.{Bool, true, false, true≢false}
+use mathlib.Core.Bool.{Bool, false}
 use mathlib.Core.Logic.{_⊎_, ⊎-map}
-use Prim.Native.Nat.{ℕ, _+_, _*_, _^_, _≤_, zero-le}
-use native.Mathlib.Nat.{zero-lt-suc, mul-one, mul-comm, mul-assoc, add-mul, mul-pos, zero-mul, sub-zero}
+use Prim.Native.Nat.{ℕ, _+_, _^_, _≤_, zero-le}
+use native.Mathlib.Nat.{zero-lt-suc, sub-zero}
 use native.Mathlib.Omega.{arith}
 use lib.Dec.{T}
 use lib.IntN.{pos}
 use borrow.Author.Tests.{le-ltb}
 use lib.Ieee as Ieee
-use lib.Ieee.{Float, nan, inf, fin, binary64, isNan, up, down, round, sum}
-use lib.Ieee.Fits.{down-pos}
+use lib.Ieee.{Float, nan, inf, fin, binary64, isNan, round}
 use lib.Ieee.Exact.{HasValue}
-use lib.Ieee.Scale.{round-same, finite}
+use lib.Ieee.Scale.{finite}
 use lib.Ieee.Back.{round-whole}
 use Rattle.merger.specs.Floats.{_⊕_, _⊖_, _⊗_, _⊘_, float, 0·0, 1·0, 4·0}
 use Rattle.merger.specs.Merge.{sumOf, wOf, excess, chiOfCounts}
+use Rattle.merger.specs.ChiError.{SomeZero}
+use Rattle.merger.proofs.Values.{add-at, sub-at}
 use Rattle.merger.proofs.Floats.{HasSign, round-sign, sign-not-nan, add-plus, over-plus, times-plus, less-not-nan, add-infinite}
 
 -- ---- whole numbers and their sums are exact
@@ -29,29 +30,9 @@ float-is n = refl
 pub float-value : (n : ℕ) → n ≤ 2 ^ 53 → HasValue (float n) false n 1
 float-value n h = rw (float-is n) (round-whole binary64 false n h)
 
--- m / e + n / g as one fraction, for m / e = a and n / g = b
-one-fraction : (m e n g a b : ℕ) → m * 1 ≡ a * e → n * 1 ≡ b * g → (m * g + n * e) * 1 ≡ (a + b) * (e * g)
-one-fraction m e n g a b p q =
-    let m-is : m ≡ a * e = sym (mul-one m) ∙ p in
-    let n-is : n ≡ b * g = sym (mul-one n) ∙ q in
-    rw (m-is, n-is, mul-one) (simp (add-mul, mul-assoc, mul-comm g e))
-
--- A sum of two whole numbers is rounded from their sum.
-add-whole : (x y : Float) (a b : ℕ) → HasValue x false a 1 → HasValue y false b 1 → x ⊕ y ≡ round binary64 false (a + b) 1
-unfolding Ieee.add sum
-add-whole nan y a b h k = absurd h
-add-whole (inf s) y a b h k = absurd h
-add-whole (fin s m e) nan a b h k = absurd k
-add-whole (fin s m e) (inf t) a b h k = absurd k
-add-whole (fin true m e) (fin t n d) a b h k = absurd (true≢false (h .0))
-add-whole (fin false m e) (fin true n d) a b h k = absurd (true≢false (k .0))
-add-whole (fin false m e) (fin false n d) a b h k =
-    round-same binary64 false (m * up e * down d + n * up d * down e) (down e * down d) (a + b) 1 (mul-pos (down-pos e) (down-pos d)) (zero-lt-suc 0)
-    (one-fraction (m * up e) (down e) (n * up d) (down d) a b (h .1) (k .1))
-
 -- A sum of two whole numbers up to 2^53 is exact.
 pub add-exact : (a b : ℕ) → a + b ≤ 2 ^ 53 → float a ⊕ float b ≡ float (a + b)
-add-exact a b h = add-whole (float a) (float b) a b (float-value a (omega arith)) (float-value b (omega arith)) ∙ sym (float-is (a + b))
+add-exact a b h = add-at (float a) (float b) a b 1 (zero-lt-suc 0) (float-value a (omega arith)) (float-value b (omega arith)) ∙ sym (float-is (a + b))
 
 -- ---- "A zero makes w infinite and chi = sum"
 -- The inverse of a count has the sign +, and that of 0 is infinite.
@@ -79,20 +60,13 @@ module _ (x0 x1 x2 x3 : Float) (h0 : HasSign false x0) (h1 : HasSign false x1) (
       let three : ((x0 ≡ inf false) ⊎ (x1 ≡ inf false)) ⊎ (x2 ≡ inf false) → (x0 ⊕ x1) ⊕ x2 ≡ inf false = λ z. add-infinite (x0 ⊕ x1) x2 two-plus h2 (⊎-map two (λ e. e) z) in
       add-infinite ((x0 ⊕ x1) ⊕ x2) x3 three-plus h3 (⊎-map three (λ e. e) z)
 
--- A whole number less 0 is rounded from itself.
-less-zero : (x : Float) (n : ℕ) → HasValue x false n 1 → x ⊖ 0·0 ≡ round binary64 false n 1
-unfolding Ieee.sub Ieee.add Ieee.neg sum
-less-zero nan n h = absurd h
-less-zero (inf s) n h = absurd h
-less-zero (fin true m e) n h = absurd (true≢false (h .0))
-less-zero (fin false m e) n h =
-    simp (zero-mul, le-ltb (m * up e * 1) 0 zero-le, sub-zero)
-    (round-same binary64 false (m * up e * 1) (down e * 1) n 1 (mul-pos (down-pos e) (zero-lt-suc 0)) (zero-lt-suc 0) (ap (λ (z : ℕ). z * 1) (h .1) ∙ mul-assoc n (down e) 1))
-
 -- Where w is infinite nothing is taken from the sum.
 excess-infinite : (n : ℕ) → n ≤ 2 ^ 53 → excess (float n) (inf false) ≡ float n
-excess-infinite n h = ap (λ (x : Float). float n ⊖ x) nothing-off ∙ less-zero (float n) n (float-value n h) ∙ sym (float-is n)
+excess-infinite n h = ap (λ (x : Float). float n ⊖ x) nothing-off ∙ less-zero ∙ sym (float-is n)
   where
+    less-zero : float n ⊖ 0·0 ≡ round binary64 false n 1
+    less-zero = rw (sub-at (float n) 0·0 n 0 1 (zero-lt-suc 0) (float-value n h) (refl, refl)) (rw (le-ltb n 0 zero-le, sub-zero n))
+
     nothing-off : 4·0 ⊗ (4·0 ⊘ inf false) ≡ 0·0
     nothing-off = unfold Ieee.mul Ieee.div in refl
 
@@ -101,10 +75,6 @@ value-finite : (x : Float) (s : Bool) (a c : ℕ) → HasValue x s a c → T (fi
 value-finite nan s a c h = absurd h
 value-finite (inf t) s a c h = absurd h
 value-finite (fin t m e) s a c h = tt
-
--- one of four counts is 0
-abbrev pub SomeZero : ℕ → ℕ → ℕ → ℕ → Type 0
-SomeZero n0 n1 n2 n3 = (((n0 ≡ 0) ⊎ (n1 ≡ 0)) ⊎ (n2 ≡ 0)) ⊎ (n3 ≡ 0)
 
 module _ (n0 n1 n2 n3 : ℕ) where
   -- A zero makes w infinite.

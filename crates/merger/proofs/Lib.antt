@@ -1,7 +1,15 @@
 pub mod Floats
 pub mod Accept
+pub mod Approx
 pub mod Blank
 pub mod Counts
+pub mod ChiError
 pub mod Densities
+pub mod Exact
+pub mod Excess
+pub mod Means
+pub mod Parts
 pub mod Protected
 pub mod Quads
+pub mod Rounding
+pub mod Values

@@ -1,3 +1,4 @@
 pub mod Floats
 pub mod Merge
+pub mod ChiError
 pub mod Told
