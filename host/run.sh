@@ -12,7 +12,8 @@
 # the live comparison with the original, for SECONDS in all (60) from SEED (1), half of them for each of
 # the two. The random texts and arguments are drawn from a seed of their own, the same in every run.
 # Last, that the stored answers in crates/replay/stdin are those that the original gives, that both
-# sides of the benchmark answer alike, and that gzip makes less of a million rows by byte column.
+# sides of the benchmark answer alike, that the chi-square is as near to the exact one as note 9 has it,
+# at millions of quadruples, and that gzip makes less of a million rows by byte column.
 #
 # The last line is `N passed, M failed` over everything that was counted; the status is 0 where M is 0.
 # Lines `K skipped: WHAT (WHY)` stand before it, K being the number of tests: where docs/src or the
@@ -153,6 +154,12 @@ bench_answers() {
         target/release/bench --small --rounds 1 > target/bench && echo "1 passed, 0 failed"
 }
 
+# The example of how near the chi-square is. It fails where the bound does at any quadruple, and where
+# even a wrong bound holds at all of them.
+chi_error_example() {
+    cd mom && one cargo run --quiet --release --example chi_error
+}
+
 # The example of what byte columns are for; it fails where they are not smaller or don't come back.
 columns_example() {
     cd mom && one cargo run --quiet --release --example columns
@@ -217,6 +224,7 @@ if [ $comparable = yes ]; then
 else
     skip "everything beside the original" "$reason" "${beside[@]}"
 fi
+part "how near the chi-square is" chi_error_example
 if command -v gzip > /dev/null; then
     part "byte columns, compressed" columns_example
 else

@@ -435,6 +435,28 @@ static void merging_blank_sky(void) {
                    MOM_KEPT, 0) && chi2 == 0, "counts of 4 at T = 0");
 }
 
+/* The chi-square of four counts, which M = 29 keeps. */
+static double chi2_of(uint32_t n0, uint32_t n1, uint32_t n2, uint32_t n3) {
+    double chi2 = 5.5;
+    uint64_t word = mom_chi2_count_merger(28, 0, 29, 0, unlisted, 0, n0, n1, n2, n3, &chi2);
+    return answers(word, MOM_KEPT, 0) ? chi2 : NAN;
+}
+
+/* How near it is: of four equal counts, whose exact chi-square is 0, it is its own error. */
+static void chi2_near(void) {
+    int near = 1;
+
+    for (uint32_t n = 1; n < 1000000; n += 7) {
+        double chi2 = chi2_of(n, n, n, n), most = 4 * n * 0x1p-50;
+        near = near && -most <= chi2 && chi2 <= most;
+    }
+    expect(near, "the chi-square of equal counts, within sum / 2^50 of 0");
+    expect(chi2_of(49, 49, 49, 49) == -0x1p-45, "the chi-square of four times 49");
+    expect(chi2_of(1, 2, 4, 4) == 3, "the chi-square of 1, 2, 4 and 4 is 3");
+    expect(chi2_of(0, 2, 4, 4) == 10 && chi2_of(5, 0, 0, 7) == 12 &&
+           chi2_of(0, 0, 0, 4294967295u) == 4294967295.0, "with a zero the chi-square is the sum");
+}
+
 /* The same in a pool, of (0,0) and (1,1), and in a narrow map. */
 static void blank_maps(void) {
     const uint64_t base[1] = {UINT64_C(1) << 58}, second[1] = {UINT64_C(3) << 56};
@@ -1376,6 +1398,7 @@ int main(void) {
     refused_commits();
     asking_and_committing();
     merging_blank_sky();
+    chi2_near();
     blank_maps();
     multiplying();
     protected_mergers();

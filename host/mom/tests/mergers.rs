@@ -1,5 +1,5 @@
 //! The mergers on small and on extreme values, against the definitions of the scope's section 2 and of
-//! note 4, written here as they are read there.
+//! notes 4 and 9, written here as they are read there.
 
 use mom::{chi2_count_merger, chi2_density_merger, CountMerge, DensityMerge, Refusal};
 
@@ -242,6 +242,41 @@ fn no_count_beside_a_zero_leaves_chi_below_the_sum() {
             assert_eq!(chi.to_bits(), f64::from(sum).to_bits(), "{counts:?}");
         }
     }
+}
+
+/// Note 9: 2^50 times the distance of chi × E from S × E − 16 × P is at most S × E. Of 1, 2, 4, 4, chi is
+/// exact. Four equal ones have the exact chi 0, so that of 49 the distance is E / 2^45, and S is 196.
+#[test]
+fn no_kept_chi_is_further_from_the_exact_one() {
+    assert_eq!(kept_counts(0, 0, 3.0, [1, 2, 4, 4]), 3.0);
+    let [s, e, p] = [11, 8 + 8 + 16 + 32, 32];
+    assert_eq!(3 * e, s * e - 16 * p);
+
+    let chi = kept_counts(28, 29, 0.0, [49; 4]);
+    assert_eq!(chi, -(2f64.powi(-45)));
+    let [s, e, p] = [196u64, 4 * 49 * 49 * 49, 49 * 49 * 49 * 49];
+    assert_eq!(s * e, 16 * p);
+    assert!(e << (50 - 45) <= s * e);
+    // With 2^53 the note would be wrong.
+    assert!(e << (53 - 45) > s * e);
+    // It is the f64 that is held against T, and this one is below 0.
+    let merged = chi2_count_merger(0, 0, 0, 0.0, &[], [49; 4]);
+    assert_eq!(merged, Ok(CountMerge::Merged(196)));
+}
+
+/// "With a zero among them chi is exactly S."
+#[test]
+fn no_chi_beside_a_zero_is_near_the_sum_and_not_the_sum() {
+    for (counts, chi) in [
+        ([0, 0, 0, 5], 5.0),
+        ([7, 0, 1, 2], 10.0),
+        ([1, 2, 0, u32::MAX - 3], 4294967295.0),
+        ([0, 1, u32::MAX - 2, 1], 4294967295.0),
+    ] {
+        assert_eq!(kept_counts(0, 0, chi, counts), chi, "{counts:?}");
+        assert_eq!(kept_counts(28, 29, 0.0, counts), chi, "{counts:?}");
+    }
+    assert_eq!(kept_counts(28, 29, 0.0, [0; 4]).to_bits(), 0);
 }
 
 /// Chi where the sum passes the largest f64: no T is above either of the two, so the four are kept.
