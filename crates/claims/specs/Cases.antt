@@ -31,7 +31,7 @@ use Rattle.build.specs.Counts.{countsRefusal, addCounts}
 use Rattle.build.specs.declared.counts.CountsAdded.{CountsAdded}
 use Rattle.build.specs.Densities.{densityRefusal}
 use Rattle.combine.specs.Overlay.{someEntry, fits, part, valueIn, overlayIn, overlay}
-use Rattle.combine.specs.Rules.{kept, combined, splitCount, definedPool}
+use Rattle.combine.specs.Rules.{kept, combined, extras, splitCount, definedPool}
 use Rattle.combine.specs.Slices.{entriesOf}
 use Rattle.combine.specs.Pool as Combining
 use Rattle.combine.specs.Pool.{Given, pairsRefusal, placesRefusal, poolCounts}
@@ -176,7 +176,7 @@ section4 =
 
 -- ---- section 5
 pub section5 : List Bool
-unfolding isListed isProtected isMap 2·0 3·5 joined listed whole tops definedMap someEntry fits part valueIn overlayIn overlay kept combined splitCount liesIn overlap acceptCounts mergedCount mergeCounts mergeByChi chiOfCounts Ieee.add Ieee.sub Ieee.mul Ieee.div Ieee.ofInt Ieee.lt
+unfolding isListed isProtected isMap 2·0 3·5 joined listed whole tops definedMap someEntry fits part valueIn overlayIn overlay kept combined extras splitCount liesIn overlap acceptCounts mergedCount mergeCounts mergeByChi chiOfCounts Ieee.add Ieee.sub Ieee.mul Ieee.div Ieee.ofInt Ieee.lt
 section5 =
     -- "Pool of (0,0) 10 and (1,1) 3 at T=2: 3, 6, 2, 2"
     isMap (definedPool (acceptCounts 29 [] 0 2·0) 1 (entry 0 0 10 ∷ []) (entry 1 1 3 ∷ [])) (1 ∷ 0 ∷ 3 ∷ 1 ∷ 1 ∷ 6 ∷ 1 ∷ 2 ∷ 2 ∷ 1 ∷ 3 ∷ 2 ∷ [])
@@ -297,7 +297,7 @@ refusesFour number (CountMerger.Refused r) = eqb (numberOf r) number && eqb (pla
 
 -- ---- note 4 of 02: blank sky; the parent depth is 1, and M = 0 unless given
 pub note4 : List Bool
-unfolding isListed isProtected refusalFrom protectedRefusal quadRefusal nHash keptWith mergedTo refusesFour −1·0 isMap from times joined listed whole tops definedMap batch someEntry fits part valueIn overlayIn overlay kept combined splitCount liesIn overlap acceptCounts mergedCount countMerger mergeCounts mergeByChi chiOfCounts Ieee.add Ieee.sub Ieee.mul Ieee.div Ieee.ofInt Ieee.lt Ieee.eq isNan
+unfolding isListed isProtected refusalFrom protectedRefusal quadRefusal nHash keptWith mergedTo refusesFour −1·0 isMap from times joined listed whole tops definedMap batch someEntry fits part valueIn overlayIn overlay kept combined extras splitCount liesIn overlap acceptCounts mergedCount countMerger mergeCounts mergeByChi chiOfCounts Ieee.add Ieee.sub Ieee.mul Ieee.div Ieee.ofInt Ieee.lt Ieee.eq isNan
 note4 =
     -- "Four siblings of count 0 now merge at any T": 0, −1, −∞
     mergedTo 0 (countMerger [] 0 0·0 1 0 0 0 0 0)
@@ -441,7 +441,7 @@ z20 = 18014398509481984
 -- ---- note 7 of 02: protected parents; M = 0 unless given. The merger's parent is (1,0); maps have a largest depth of 2, in which the zuniqs of
 -- (1,0), (1,1), (0,0), (1,2) and (1,3) are 4, 12, 16, 20 and 28
 pub note7 : List Bool
-unfolding z00 z10 z11 z20 refusesQuad refusesAdd keptWith mergedTo isList isMap from times 3·0 3·5 isListed isProtected refusalFrom protectedRefusal quadRefusal nHash zuniq hashAt isZuniqAt cellUpTo decode joined listed whole tops definedMap batch someEntry fits part valueIn overlayIn overlay kept combined splitCount liesIn overlap acceptCounts mergedCount countMerger mergeCounts mergeByChi chiOfCounts addCounts addCall countsRefusal settingsRefusal lengthsRefusal Ieee.add Ieee.sub Ieee.mul Ieee.div Ieee.ofInt Ieee.lt Ieee.eq isNan
+unfolding z00 z10 z11 z20 refusesQuad refusesAdd keptWith mergedTo isList isMap from times 3·0 3·5 isListed isProtected refusalFrom protectedRefusal quadRefusal nHash zuniq hashAt isZuniqAt cellUpTo decode joined listed whole tops definedMap batch someEntry fits part valueIn overlayIn overlay kept combined extras splitCount liesIn overlap acceptCounts mergedCount countMerger mergeCounts mergeByChi chiOfCounts addCounts addCall countsRefusal settingsRefusal lengthsRefusal Ieee.add Ieee.sub Ieee.mul Ieee.div Ieee.ofInt Ieee.lt Ieee.eq isNan
 note7 =
     -- "A quad whose parent is listed is kept", with its chi; first, last and between others
     keptWith 3·0 (countMerger (z10 ∷ []) 0 3·5 1 0 1 2 4 4)
@@ -531,7 +531,7 @@ z13 = 504403158265495552
 
 -- ---- note 8 of 02: a pool that is asked for before it is done; M = 0 and no protected parents unless given
 pub note8 : List Bool
-unfolding asks refusesAsk pools figures counted ten three z12 z13 z00 z10 z11 refusesAdd isList times 2·0 3·5 isListed isProtected refusalFrom protectedRefusal nHash zuniq hashAt isZuniqAt cellUpTo decode overlapOf overlapTest isYes overlaps faultAfter faultOf faultAt atOr faultFrom firstFault mapRefusal laid filled joined listed whole tops definedMap someEntry fits part valueIn overlayIn overlay kept combined splitCount liesIn overlap entriesOf acceptCounts mergedCount mergeCounts mergeByChi chiOfCounts sumOf Combining.settingsRefusal pairsRefusal Combining.mapsRefusal Combining.sumsRefusal placesRefusal Combining.poolInputRefusal Combining.poolRefusal Combining.poolOver poolCounts figuresOf askCounts figuresRefusal commitRefusal commitCounts Ieee.add Ieee.sub Ieee.mul Ieee.div Ieee.ofInt Ieee.lt Ieee.eq isNan
+unfolding asks refusesAsk pools figures counted ten three z12 z13 z00 z10 z11 refusesAdd isList times 2·0 3·5 isListed isProtected refusalFrom protectedRefusal nHash zuniq hashAt isZuniqAt cellUpTo decode overlapOf overlapTest isYes overlaps faultAfter faultOf faultAt atOr faultFrom firstFault mapRefusal laid filled joined listed whole tops definedMap someEntry fits part valueIn overlayIn overlay kept combined extras splitCount liesIn overlap entriesOf acceptCounts mergedCount mergeCounts mergeByChi chiOfCounts sumOf Combining.settingsRefusal pairsRefusal Combining.mapsRefusal Combining.sumsRefusal placesRefusal Combining.poolInputRefusal Combining.poolRefusal Combining.poolOver poolCounts figuresOf askCounts figuresRefusal commitRefusal commitCounts Ieee.add Ieee.sub Ieee.mul Ieee.div Ieee.ofInt Ieee.lt Ieee.eq isNan
 note8 =
     -- "Ask answers the number of overlay cells, of entries after merging, and the total": at T = 2 the four stay, at T = 3.5 they merge
     asks (askCounts [] ten three 0 2·0) 4 4 13

@@ -1,19 +1,16 @@
 -- The cells that a rule keeps of an overlay, and the map that merging makes of them: the defined pool and the defined product.
 -- Assumes nothing.
 use mathlib.Core.Path.{_≡_, refl, ap, _∙_}
-use mathlib.Core.Bool.{cond}
 use mathlib.Core.List.{List, [], _∷_, _++_, map, reverse}
 use mathlib.Core.Logic.{_⊎_, ⊎-map, _↔_}
 use mathlib.Core.Option.{Option, none, some}
-use Prim.Native.Nat.{ℕ, suc, _+_, _/_, _%_, _≤_}
+use Prim.Native.Nat.{ℕ, suc, _+_, _≤_}
 use native.Mathlib.Omega.{arith}
-use lib.Dec.{ltb}
 use lib.ListN.{length}
 use Rattle.zuniq.specs.Cells.{nHash}
 use Rattle.build.specs.Map.{Entry, itselfOr, Merger, definedMap}
 use Rattle.build.specs.Stack.{run}
 use Rattle.build.specs.Promises.{Covers, endOf, Rises, total, Sums}
-use Rattle.build.proofs.Entries.{below-four}
 use Rattle.build.proofs.Rising.{range-of, rises-from}
 use Rattle.build.proofs.Law.{run-gives-defined-map}
 use Rattle.build.proofs.DefinedMap.{defined-map-covers, defined-map-total}
@@ -21,6 +18,7 @@ use Rattle.combine.specs.Overlay.{Seen, left, right, both, Split, overla
 use Rattle.combine.specs.Rules.{Rule, kept, combined, splitCount, pooledCount, poolRule, definedPool}
 use Rattle.combine.specs.Promises.{amount, Shares}
 use Rattle.combine.proofs.Overlay.{overlay-rises, overlay-covers}
+use Rattle.combine.proofs.Sharing.{split-count-shares}
 use Rattle.combine.proofs.Swap.{overlay-swap}
 use Rattle.combine.proofs.Walk.{overlay-total}
 
@@ -68,12 +66,6 @@ module _ {A : Type 0} (rule : Rule A) where
     combined-swap alike = ap (definedMap accept K) (ap (kept rule) (overlay-swap split l r K) ∙ kept-swapped alike (overlay split K l r))
 
 -- ---- the pool
--- The four parts of a count sum to it.
-pub split-count-shares : Shares splitCount (λ n. n)
-unfolding splitCount
-split-count-shares d h v = below-four (λ k. v % 4 ≡ k → v / 4 + cond (ltb 0 k) 1 0 + (v / 4 + cond (ltb 1 k) 1 0) + (v / 4 + cond (ltb 2 k) 1 0) + (v / 4 + cond (ltb 3 k) 1 0) ≡ v)
-    (λ q. omega arith) (λ q. omega arith) (λ q. omega arith) (λ q. omega arith) (v % 4) (omega arith) refl
-
 -- Left and right are alike for the pool.
 pub pool-rule-swapped : (e : Entry (Seen ℕ)) → poolRule (swapped e) ≡ poolRule e
 pool-rule-swapped e = ap some (go (e .value))

@@ -1,8 +1,10 @@
 pub mod Fits
 pub mod Overlay
 pub mod Swap
+pub mod AnySplit
 pub mod Turns
 pub mod Walk
+pub mod Sharing
 pub mod Kept
 pub mod Heads
 pub mod Sides

@@ -14,7 +14,7 @@ joined-ext zero g k q = refl
 joined-ext (suc n) g k q = ap₂ _++_ (joined-ext n g k q) (q n)
 
 -- What is done to each member is done to each list.
-map-joined : {B C : Type 0} (f : B → C) (n : ℕ) (g : ℕ → List B) → map f (joined n g) ≡ joined n (λ i. map f (g i))
+pub map-joined : {B C : Type 0} (f : B → C) (n : ℕ) (g : ℕ → List B) → map f (joined n g) ≡ joined n (λ i. map f (g i))
 unfolding joined
 map-joined f zero g = refl
 map-joined f (suc n) g = map-append f (joined n g) (g n) ∙ ap (λ x. x ++ map f (g n)) (map-joined f n g)

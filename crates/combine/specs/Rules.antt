@@ -2,8 +2,8 @@
 use mathlib.Core.Bool.{cond}
 use mathlib.Core.List.{List, [], _∷_, _++_}
 use mathlib.Core.Option.{Option, none, some}
-use Prim.Native.Nat.{ℕ, _+_, _/_, _%_}
-use lib.Dec.{ltb}
+use Prim.Native.Nat.{ℕ, zero, suc, _+_, _/_, _%_}
+use lib.Dec.{eqb}
 use lib.Ieee as Ieee
 use lib.Ieee.{Float, binary64}
 use Rattle.build.specs.Map.{Entry, itselfOr, Merger, definedMap}
@@ -27,9 +27,14 @@ unfoldable pub combined : {A : Type 0} → Merger A → Split A → Rule A → �
 combined accept split rule K l r = definedMap accept K (kept rule (overlay split K l r))
 
 -- ---- "Pool (counts)"
--- "splitting v gives each child floor(v/4), children 0 to (v mod 4) − 1 one more"
+-- "for parent hash h the extra ones go to children h mod 4, (h + 1) mod 4 and onwards" (note 10 of 02): how many of n extra ones child i gets
+unfoldable pub extras : ℕ → ℕ → ℕ → ℕ
+extras h zero i = 0
+extras h (suc n) i = extras h n i + cond (eqb i ((h + n) % 4)) 1 0
+
+-- "splitting v gives each child floor(v/4)", and the extra ones, "(v mod 4) of them", are shared by the parent's hash
 unfoldable pub splitCount : Split ℕ
-splitCount d h v i = v / 4 + cond (ltb i (v % 4)) 1 0
+splitCount d h v i = v / 4 + extras h (v % 4) i
 
 -- "alone: kept; both: sum"
 abbrev pub pooledCount : Seen ℕ → ℕ

@@ -1,5 +1,12 @@
-// What a walk of two count maps is made of: cells, sides and turns. And what asking for a pool answers.
+// What a walk of two count maps is made of: cells, sides and turns; and how a cell is split. And what
+// asking for a pool answers.
+ghost use mathlib.Core.Path.{_≡_};
+ghost use Prim.Native.Nat.{_<_};
+ghost use Rattle.combine.specs.Rules.{splitCount};
+ghost use Rattle.combine.specs.Heads.{Good, ChildOf};
+ghost use Rattle.combine.specs.Counts.{asEntry, zuniqIn};
 use refusal::Refusal;
+use zuniq::Zuniq64;
 
 // A cell with its zuniq and its count.
 pub struct Dhzv {
@@ -42,6 +49,37 @@ pub enum Turn {
     OpenLeft(Dhzv),
     OpenRight(Dhzv),
     Stop,
+}
+
+// Child i of a cell that is split.
+pub fn child(parent: Dhzv, i: u32) -> Dhzv
+    requires { ⌜ Good asEntry zuniqIn parent × (parent .depth < 29) × (i < 4) ⌝ }
+    ensures { λ r. ⌜ ChildOf asEntry zuniqIn splitCount parent i r ⌝ }
+{
+    let depth = parent.depth + 1;
+    let hash = 4 * parent.hash + i as u64;
+    Dhzv {
+        depth,
+        hash,
+        zuniq: Zuniq64::to_zuniq_unchecked(depth, hash),
+        value: part_of(parent.value, parent.hash, i),
+    }
+}
+
+// What child i has of its parent's count: a quarter, and one more if it is among the first count % 4
+// children. The parent's hash says which child is the first, so that not all that is left over
+// gathers in one corner; behind child 3 comes child 0.
+fn part_of(count: u32, parent_hash: u64, i: u32) -> u32
+    requires { ⌜ i < 4 ⌝ }
+    ensures { λ r. ⌜ r ≡ splitCount 0 «parent_hash» count i ⌝ }
+{
+    let first = (parent_hash % 4) as u32;
+    let before = (i + 4 - first) % 4;
+    if before < count % 4 {
+        count / 4 + 1
+    } else {
+        count / 4
+    }
 }
 
 // What a pool costs and comes to.

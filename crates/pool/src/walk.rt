@@ -25,6 +25,7 @@ use combine::counts::Head;
 use combine::counts::LhsRhsBoth;
 use combine::counts::Side;
 use combine::counts::Turn;
+use combine::counts::child;
 use tally::NO_CELLS;
 use tally::Running;
 use tally::count;
@@ -364,31 +365,5 @@ fn open(side: Side, first: Dhzv) -> Side
         pending: side.pending + 3,
         place: side.place,
         taken: false,
-    }
-}
-
-// Child i of a cell.
-fn child(parent: Dhzv, i: u32) -> Dhzv
-    requires { ⌜ Good asEntry zuniqIn parent × (parent .depth < 29) × (i < 4) ⌝ }
-    ensures { λ r. ⌜ ChildOf asEntry zuniqIn splitCount parent i r ⌝ }
-{
-    let depth = parent.depth + 1;
-    let hash = 4 * parent.hash + i as u64;
-    Dhzv {
-        depth,
-        hash,
-        zuniq: Zuniq64::to_zuniq_unchecked(depth, hash),
-        value: part_of(parent.value, i),
-    }
-}
-
-// What child i has of a count.
-fn part_of(count: u32, i: u32) -> u32
-    ensures { λ r. ⌜ r ≡ splitCount 0 0 count i ⌝ }
-{
-    if i < count % 4 {
-        count / 4 + 1
-    } else {
-        count / 4
     }
 }

@@ -1,10 +1,10 @@
 -- `child` meets its contract. Assumes nothing.
 use native.Mathlib.Omega.{arith}
 use Rattle.combine.specs.Rules.{splitCount}
 use Rattle.combine.proofs.Heads.{child-fits, child-in-sky, child-is}
 use borrow.Author.Needs.{needs}
-use Rattle.pool.proofs.walk.child.Statement.{statement}
-use Rattle.pool.proofs.walk.child.Tie as tie
+use Rattle.combine.proofs.counts.child.Statement.{statement}
+use Rattle.combine.proofs.counts.child.Tie as tie
 
 add-depth : tie.Need-add-depth
 add-depth c = search needs
