@@ -1,6 +1,6 @@
 -- Section 5 of the scope: what is promised of the overlay, in the paper's words.
 use mathlib.Core.Path.{_≡_}
-use mathlib.Core.Bool.{true}
+use mathlib.Core.Bool.{true, false, _&&_}
 use mathlib.Core.List.{List}
 use mathlib.Core.Logic.{_⊎_}
 use mathlib.Core.Option.{some}
@@ -21,6 +21,10 @@ pub record OverlayCell {A : Type 0} (split : Split A) (K : ℕ) (l r : List (Ent
   pub qualifies : Qualifies l r (e .depth) (e .hash)
   pub sees : seenAt split l r (e .depth) (e .hash) ≡ some (e .value)
   pub largest : (a b : ℕ) → a < e .depth → liesIn (e .depth) (e .hash) a b ≡ true → Qualifies l r a b → ⊥
+
+-- the cell (d, h), an entry of one map or a part of one, is split: it does not fit the other map
+abbrev pub IsSplit : {A : Type 0} → List (Entry A) → List (Entry A) → ℕ → ℕ → Type 0
+IsSplit l r d h = (Covers l d h ⊎ Covers r d h) × ((fits l d h && fits r d h) ≡ false)
 
 -- a figure of what the rule sees: that of both sides together
 abbrev pub amount : {A : Type 0} → (A → ℕ) → Seen A → ℕ
