@@ -4,7 +4,7 @@ use mathlib.Core.Path.{_≡_, refl}
 use mathlib.Core.Bool.{Bool, true, false, not, _&&_}
 use mathlib.Core.List.{List, [], _∷_, _++_}
 use mathlib.Core.Option.{Option, none, some}
-use Prim.Native.Nat.{ℕ, zero, suc, _+_, _-_}
+use Prim.Native.Nat.{ℕ, zero, suc, _+_, _*_, _-_}
 use lib.Dec.{eqb}
 use lib.IntN.{ℤ, pos, negsuc, negℤ}
 use lib.ListN.{length}
@@ -636,7 +636,55 @@ note9 =
     ∷ not (isTotal 1 2 4 4)
     ∷ []
 
+-- ---- note 10: fairer sharing of a remainder
+-- the pool of the cell (0,h) of v with its first child, of count 0, in which nothing is merged, is four cells of these counts: in either order
+splitInto : ℕ → ℕ → List ℕ → Bool
+splitInto h v parts = isList (countsOf (entry 0 h v ∷ []) (entry 1 (4 * h) 0 ∷ [])) parts && isList (countsOf (entry 1 (4 * h) 0 ∷ []) (entry 0 h v ∷ [])) parts
+  where
+    values : List (Entry ℕ) → List ℕ
+    values [] = []
+    values (e ∷ l) = e .value ∷ values l
+
+    countsOf : List (Entry ℕ) → List (Entry ℕ) → List ℕ
+    countsOf l r = values (definedPool (acceptCounts 29 [] 1 2·0) 1 l r)
+
+pub note10 : List Bool
+unfolding splitInto isList isMap 2·0 isListed isProtected joined listed whole tops definedMap someEntry fits part valueIn overlayIn overlay kept combined extras splitCount liesIn overlap acceptCounts mergedCount mergeCounts mergeByChi chiOfCounts Ieee.add Ieee.sub Ieee.mul Ieee.div Ieee.ofInt Ieee.lt
+note10 =
+    -- "for parent hash h the extra ones go to children h mod 4, (h + 1) mod 4 and onwards, (v mod 4) of them": none, one, two and three, under
+    -- each h mod 4
+    splitInto 0 4 (1 ∷ 1 ∷ 1 ∷ 1 ∷ [])
+    ∷ splitInto 0 5 (2 ∷ 1 ∷ 1 ∷ 1 ∷ [])
+    ∷ splitInto 0 6 (2 ∷ 2 ∷ 1 ∷ 1 ∷ [])
+    ∷ splitInto 0 7 (2 ∷ 2 ∷ 2 ∷ 1 ∷ [])
+    ∷ splitInto 1 4 (1 ∷ 1 ∷ 1 ∷ 1 ∷ [])
+    ∷ splitInto 1 5 (1 ∷ 2 ∷ 1 ∷ 1 ∷ [])
+    ∷ splitInto 1 6 (1 ∷ 2 ∷ 2 ∷ 1 ∷ [])
+    ∷ splitInto 1 7 (1 ∷ 2 ∷ 2 ∷ 2 ∷ [])
+    ∷ splitInto 2 4 (1 ∷ 1 ∷ 1 ∷ 1 ∷ [])
+    ∷ splitInto 2 5 (1 ∷ 1 ∷ 2 ∷ 1 ∷ [])
+    ∷ splitInto 2 6 (1 ∷ 1 ∷ 2 ∷ 2 ∷ [])
+    ∷ splitInto 2 7 (2 ∷ 1 ∷ 2 ∷ 2 ∷ [])
+    ∷ splitInto 3 4 (1 ∷ 1 ∷ 1 ∷ 1 ∷ [])
+    ∷ splitInto 3 5 (1 ∷ 1 ∷ 1 ∷ 2 ∷ [])
+    ∷ splitInto 3 6 (2 ∷ 1 ∷ 1 ∷ 2 ∷ [])
+    ∷ splitInto 3 7 (2 ∷ 2 ∷ 1 ∷ 2 ∷ [])
+    -- the next base cells go on as the first; the largest count, and less than one each
+    ∷ splitInto 6 3 (1 ∷ 0 ∷ 1 ∷ 1 ∷ [])
+    ∷ splitInto 11 1 (0 ∷ 0 ∷ 0 ∷ 1 ∷ [])
+    ∷ splitInto 9 4294967295 (1073741823 ∷ 1073741824 ∷ 1073741824 ∷ 1073741824 ∷ [])
+    -- level by level, each by its own parent's hash: of (0,2) of 7 child (1,11) gets 2, and of these (2,47) and (2,44) one each
+    ∷ isMap (definedPool (acceptCounts 29 [] 29 2·0) 2 (entry 0 2 7 ∷ []) (entry 2 45 0 ∷ []))
+    (1 ∷ 8 ∷ 2 ∷ 1 ∷ 9 ∷ 1 ∷ 1 ∷ 10 ∷ 2 ∷ 2 ∷ 44 ∷ 1 ∷ 2 ∷ 45 ∷ 0 ∷ 2 ∷ 46 ∷ 0 ∷ 2 ∷ 47 ∷ 1 ∷ [])
+    -- merged again what was split is what it was
+    ∷ isMap (definedPool (acceptCounts 29 [] 0 (inf false)) 2 (entry 0 2 7 ∷ []) (entry 2 45 0 ∷ [])) (0 ∷ 2 ∷ 7 ∷ [])
+    -- "01's worked pool of 10 on (0,0) is unchanged"
+    ∷ isMap (definedPool (acceptCounts 29 [] 0 2·0) 1 (entry 0 0 10 ∷ []) (entry 1 1 3 ∷ [])) (1 ∷ 0 ∷ 3 ∷ 1 ∷ 1 ∷ 6 ∷ 1 ∷ 2 ∷ 2 ∷ 1 ∷ 3 ∷ 2 ∷ [])
+    -- on (0,1) it is 2, 3 + 3, 3, 2
+    ∷ isMap (definedPool (acceptCounts 29 [] 0 2·0) 1 (entry 0 1 10 ∷ []) (entry 1 5 3 ∷ [])) (1 ∷ 4 ∷ 2 ∷ 1 ∷ 5 ∷ 6 ∷ 1 ∷ 6 ∷ 3 ∷ 1 ∷ 7 ∷ 2 ∷ [])
+    ∷ []
+
 -- ---- all of them
-pub starred-cases : every (section1 ++ (section2 ++ (section4 ++ (section5 ++ (note1 ++ (note2 ++ (note3 ++ (note4 ++ (note6 ++ (note7 ++ (note8 ++ note9))))))))))) ≡ true
-unfolding every section1 section2 section4 section5 note1 note2 note3 note4 note6 note7 note8 note9
+pub starred-cases : every (section1 ++ (section2 ++ (section4 ++ (section5 ++ (note1 ++ (note2 ++ (note3 ++ (note4 ++ (note6 ++ (note7 ++ (note8 ++ (note9 ++ note10)))))))))))) ≡ true
+unfolding every section1 section2 section4 section5 note1 note2 note3 note4 note6 note7 note8 note9 note10
 starred-cases = refl
