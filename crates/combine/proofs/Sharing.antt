@@ -42,7 +42,7 @@ extras-shared h zero = refl
 extras-shared h (suc n) =
     let e = extras-shared h n in
     below-four (λ k. extras h n 0 + cond (eqb 0 k) 1 0 + (extras h n 1 + cond (eqb 1 k) 1 0) + (extras h n 2 + cond (eqb 2 k) 1 0) + (extras h n 3 + cond (eqb 3 k) 1 0) ≡ suc n)
-      (omega (arith, e)) (omega (arith, e)) (omega (arith, e)) (omega (arith, e)) ((h + n) % 4) (omega arith)
+    (omega (arith, e)) (omega (arith, e)) (omega (arith, e)) (omega (arith, e)) ((h + n) % 4) (omega arith)
 
 -- The four parts of a count sum to it.
 pub split-count-shares : Shares splitCount (λ n. n)

@@ -57,8 +57,8 @@ use line::read;
 use print::print_answer;
 use tally::Tally;
 
-// The input has some 259,000 bytes.
-const MAX_INPUT: usize = 262_144;
+// The input has some 263,000 bytes.
+const MAX_INPUT: usize = 327_680;
 
 fn main() {
     let mut buffer = [0u8; MAX_INPUT];
