@@ -2,13 +2,14 @@
 use mathlib.Core.Path.{_≡_, refl, ap}
 use mathlib.Core.Bool.{cond}
 use mathlib.Core.Logic.{_⊎_, inl, inr}
-use Prim.Native.Nat.{ℕ, zero, suc, _+_, _-_, _/_, _%_, _≤_, _<_}
+use Prim.Native.Nat.{ℕ, zero, suc, _+_, _*_, _-_, _/_, _%_, _≤_, _<_}
 use native.Mathlib.Omega.{arith}
 use native.Mathlib.Nat.{eq-or-lt-of-le}
 use lib.Dec.{eqb, ltb}
 use borrow.Author.Tests.{lt-ltb, le-ltb, eq-eqb, ne-eqb}
 use Rattle.zuniq.proofs.Basics.{le-or-lt}
 use Rattle.build.proofs.Entries.{below-four}
+use Rattle.combine.specs.Overlay.{part}
 use Rattle.combine.specs.Rules.{extras, splitCount}
 use Rattle.combine.specs.Promises.{Shares}
 
@@ -60,3 +61,26 @@ split-count-even d h v i j p q = omega (arith, at-most-one i p)
         go : (v % 4 ≤ turn h i) ⊎ (turn h i < v % 4) → cond (ltb (turn h i) (v % 4)) 1 0 ≤ 1
         go (inl b) = rw (le-ltb _ _ b) (omega arith)
         go (inr b) = rw (lt-ltb _ _ b) (omega arith)
+
+-- the cell n levels below one of hash h that is child h mod 4 on each of them
+abbrev pub corner : ℕ → ℕ → ℕ
+corner zero h = h
+corner (suc n) h = 4 * corner n h + h % 4
+
+corner-turn : (n h : ℕ) → corner n h % 4 ≡ h % 4
+corner-turn zero h = refl
+corner-turn (suc n) h = omega arith
+
+first-gets-one : (d h : ℕ) → splitCount d h 1 (h % 4) ≡ 1
+unfolding splitCount extras
+first-gets-one d h = rw (eq-eqb (h % 4) ((h + 0) % 4) (omega arith)) refl
+
+-- A source that is left over alone goes to one corner of its cell, however far down: the child that it goes to would hand it on to the same one.
+pub lone-source : (n d h : ℕ) → part splitCount n (n + d) (corner n h) 1 ≡ 1
+unfolding part
+lone-source zero d h = refl
+lone-source (suc n) d h =
+    let up : suc n + d - 1 ≡ n + d = omega arith in
+    let over : (4 * corner n h + h % 4) / 4 ≡ corner n h = omega arith in
+    let same : (4 * corner n h + h % 4) % 4 ≡ corner n h % 4 = omega (arith, corner-turn n h) in
+    rw (up, over, same, lone-source n d h) (first-gets-one (n + d) (corner n h))
