@@ -297,9 +297,16 @@ pub fn build_densities_by_chi<Z: ZUniqHashT>(
 
 // ---- Section 5: combining. The answer is the map's depth and its entries.
 
-/// "Splitting v gives each child floor(v/4), children 0 to (v mod 4) − 1 one more."
-fn split_count(count: u32) -> [u32; 4] {
-    [0, 1, 2, 3].map(|child| count / 4 + u32::from(child < count % 4))
+/// "Splitting v gives each child floor(v/4)"; "for parent hash h the extra ones go to children h mod 4,
+/// (h + 1) mod 4 and onwards, (v mod 4) of them." (Note 10.) The hash is that of the cell that is split,
+/// which the original hands to the closure on every level.
+fn split_count<Z: ZUniqHashT>(hash: Z, count: u32) -> [u32; 4] {
+    let first = (hash & Z::three()).to_u32().unwrap();
+    let mut children = [count / 4; 4];
+    for extra in 0..count % 4 {
+        children[(first + extra) as usize % 4] += 1;
+    }
+    children
 }
 
 /// "Alone: kept; both: sum."
@@ -354,7 +361,7 @@ fn pool_with<Z: ZUniqHashT>(
     rule: impl Fn(LhsRhsBoth<u32>) -> Option<u32>,
     merger: impl Fn(u8, Z, [u32; 4]) -> Result<u32, [u32; 4]>,
 ) -> (u8, Vec<(Z, u32)>) {
-    let split = |_, _, count| split_count(count);
+    let split = |_, hash, count| split_count(hash, count);
     let pooled = MomVecImpl::merge(left, right, split, rule, merger);
     (pooled.depth_max(), pooled.owned_entries().collect())
 }

@@ -132,6 +132,55 @@ fn the_pool_splits_the_larger_cell() {
     assert_eq!(pool(3.5), (1, zuniqs(&[(0, 0, 13)])));
 }
 
+/// A base cell is split over one of its children, at both widths.
+#[test]
+fn the_pool_shares_a_remainder_from_child_h_mod_4_on() {
+    for (hash, counts) in [
+        (0, [2, 2, 2, 1]),
+        (1, [1, 2, 2, 2]),
+        (2, [2, 1, 2, 2]),
+        (3, [2, 2, 1, 2]),
+        (4, [2, 2, 2, 1]),
+        (11, [2, 2, 1, 2]),
+    ] {
+        let four = [0, 1, 2, 3].map(|child| (1, 4 * hash + child, counts[child as usize]));
+        for over in four {
+            let left = zuniqs(&[(0, hash, 7)]);
+            let right = zuniqs(&[(over.0, over.1, 0)]);
+            let [l, r] = [(0, &left), (1, &right)].map(|(d, map)| run::mom(d, narrowed(map)));
+            let kept = run::pool(l, r, 1, 0.0, unprotected);
+            assert_eq!(kept, (1, narrowed(&zuniqs(&four))));
+            let (l, r) = (run::mom(0, left), run::mom(1, right));
+            let kept = run::pool(l, r, 1, 0.0, unprotected);
+            assert_eq!(kept, (1, zuniqs(&four)));
+        }
+    }
+}
+
+fn narrowed(entries: &[(u64, u32)]) -> Vec<(u32, u32)> {
+    let entries = entries.iter();
+    entries
+        .map(|&(zuniq, count)| (run::zuniq_from_u64_to_u32(zuniq), count))
+        .collect()
+}
+
+/// (0, 1) of 7 is split into 1, 2, 2, 2, and of these (1, 7), which starts at its child 3, into 1, 0, 0, 1.
+#[test]
+fn the_pool_shares_by_the_hash_of_each_level_s_own_parent() {
+    let left = run::mom(0, zuniqs(&[(0, 1, 7)]));
+    let right = run::mom(2, zuniqs(&[(2, 29, 0)]));
+    let apart = zuniqs(&[
+        (1, 4, 1),
+        (1, 5, 2),
+        (1, 6, 2),
+        (2, 28, 1),
+        (2, 29, 0),
+        (2, 30, 0),
+        (2, 31, 1),
+    ]);
+    assert_eq!(run::pool(left, right, 2, 0.0, unprotected), (2, apart));
+}
+
 /// Before merging, whichever map a cell is of: what is alone, split or in both counts once.
 #[test]
 fn each_overlay_cell_of_a_pool_is_counted_once() {
