@@ -1,5 +1,7 @@
 //! The pairs of maps drawn: none of what they are to show is rare, and pooling has no order.
 
+use std::{cell::RefCell, collections::BTreeSet, fmt::Display};
+
 use differential::{
     cells::{cells_to, Cell, DEPTH_MAX},
     compare::Kind,
@@ -17,8 +19,9 @@ const DRAWN: usize = 10_000;
 struct Drawn<V: Combine> {
     input: Input<V>,
     judged: Step<V>,
-    /// Where the maps are valid.
+    /// The overlay, and what is split for it on each level, where the call is accepted.
     seen: Vec<Seen<V>>,
+    split: Vec<(Cell, V)>,
 }
 
 fn drawn<V: Combine>(seed: u64) -> Vec<Drawn<V>> {
@@ -26,10 +29,14 @@ fn drawn<V: Combine>(seed: u64) -> Vec<Drawn<V>> {
     let draw = |_| {
         let input = Input::<V>::random(&mut random);
         let judged = input.judged();
+        let split = RefCell::new(vec![]);
         let seen = match judged.0 {
             Ok(_) => {
                 let (left, right) = (input.left.entries(), input.right.entries());
-                overlay(&left, &right, |_, value| value.split())
+                overlay(&left, &right, |cell, value| {
+                    split.borrow_mut().push((cell, value));
+                    V::split(cell, value)
+                })
             }
             Err(_) => vec![],
         };
@@ -37,6 +44,7 @@ fn drawn<V: Combine>(seed: u64) -> Vec<Drawn<V>> {
             input,
             judged,
             seen,
+            split: split.into_inner(),
         }
     };
     (0..DRAWN).map(draw).collect()
@@ -44,7 +52,10 @@ fn drawn<V: Combine>(seed: u64) -> Vec<Drawn<V>> {
 
 type Class<V> = (&'static str, fn(&Drawn<V>) -> bool);
 
-fn assert_none_is_rare<V: Combine>(drawn: &[Drawn<V>], classes: &[Class<V>]) {
+fn assert_none_is_rare<V: Combine>(
+    drawn: &[Drawn<V>],
+    classes: &[(impl Display, impl Fn(&Drawn<V>) -> bool)],
+) {
     for (name, is_in) in classes {
         let found = drawn.iter().filter(|pair| is_in(pair)).count();
         assert!(found * 1000 > DRAWN, "{name}: {found} of {DRAWN}");
@@ -264,6 +275,22 @@ impl Drawn<u32> {
             })
     }
 
+    /// Whether a cell is split that shares so many extra ones from its child `first` on.
+    fn shares(&self, first: u64, extra: u32) -> bool {
+        let mut split = self.split.iter();
+        split.any(|&(cell, count)| cell.hash % 4 == first && count % 4 == extra)
+    }
+
+    /// Whether that is so, with any number of them, where the cell got one of its parent's extra ones.
+    fn shares_on(&self, first: u64) -> bool {
+        self.split.iter().any(|&(cell, count)| {
+            let got_one = |&(parent, of_parent): &(Cell, u32)| {
+                parent.children().contains(&cell) && count > of_parent / 4
+            };
+            cell.hash % 4 == first && count % 4 > 0 && self.split.iter().any(got_one)
+        })
+    }
+
     /// Whether T is not above 0 and four siblings of 0 stay.
     fn keeps_blanks(&self) -> bool {
         self.t() <= 0.0
@@ -276,6 +303,23 @@ impl Drawn<u32> {
                 first.depth > 0 && (0..4).all(is_child)
             })
     }
+}
+
+/// "The extra ones go to children h mod 4, (h + 1) mod 4 and onwards, (v mod 4) of them."
+#[test]
+fn no_remainder_under_any_hash_is_rare() {
+    let drawn = drawn(28);
+    let remainders = (0..12).map(|way| (way / 3, way as u32 % 3 + 1));
+    let classes = remainders.map(|(first, extra)| {
+        let name = format!("{extra} from child {first} on");
+        (name, move |pair: &Drawn<u32>| pair.shares(first, extra))
+    });
+    assert_none_is_rare(&drawn, &classes.collect::<Vec<_>>());
+    let classes = (0..4).map(|first| {
+        let name = format!("an extra one shared on from child {first} on");
+        (name, move |pair: &Drawn<u32>| pair.shares_on(first))
+    });
+    assert_none_is_rare(&drawn, &classes.collect::<Vec<_>>());
 }
 
 const BLANK_POOLS: &[Class<u32>] = &[
@@ -357,15 +401,15 @@ fn no_kind_of_product_is_rare() {
     assert_none_is_rare(&drawn(22), &classes);
 }
 
-/// All of them are there without a list: 83 maps in a base cell with two values, or 17 with 0, at four settings; and
-/// an entry in another one of 465 pairs of depths, at three places with three values and two T. Under a list
-/// there are some that it changes.
+/// All of them are there without a list: 83 maps in a base cell with two values, or 17 with 0, at four settings;
+/// an entry in another one of 465 pairs of depths, at three places with three values and two T; and one under each of
+/// eight hashes, at four depths, with twelve counts and four ways down. Under a list there are some that it changes.
 #[test]
 fn no_small_pair_is_left_out() {
     let is_unlisted = |pair: &Input<u32>| pair.protected.is_empty();
     let (unlisted, listed): (Vec<_>, Vec<_>) = Pool::small().partition(is_unlisted);
-    let nested = 465 * 3 * 3 * 2;
-    assert_eq!(unlisted.len(), (83 * 83 + 17 * 17) * 4 + nested);
+    let (nested, shared) = (465 * 3 * 3 * 2, 8 * 4 * 12 * 4);
+    assert_eq!(unlisted.len(), (83 * 83 + 17 * 17) * 4 + nested + shared);
     let changed = listed.iter().filter(|pair| {
         let unlisted = Input {
             protected: vec![],
@@ -376,6 +420,25 @@ fn no_small_pair_is_left_out() {
     let (of_one, of_more): (Vec<_>, Vec<_>) = changed.partition(|pair| pair.protected.len() == 1);
     assert!(of_one.len() > 100 && of_more.len() > 100);
     assert!(listed.len() * 3 < unlisted.len());
+}
+
+/// Under every hash mod 4, each count mod 4 is split over each child: of a base cell and of a parent of depth 28,
+/// and through three levels, from a base cell and down to depth 29.
+#[test]
+fn no_small_remainder_is_left_out() {
+    let apart = Pool::small().filter(|pair| pair.depth_threshold == DEPTH_MAX);
+    let split = apart.map(|pair| {
+        let ((over, count), (under, _)) = (pair.left.entries()[0], pair.right.entries()[0]);
+        let depths = (over.depth, under.depth);
+        (depths, over.hash % 4, count % 4, under.hash % 4)
+    });
+    let split: BTreeSet<_> = split.collect();
+    for depths in [(0, 1), (28, 29), (0, 3), (26, 29)] {
+        for way in 0..64 {
+            let remainder = (depths, way / 16, way as u32 / 4 % 4, way % 4);
+            assert!(split.contains(&remainder), "{remainder:?}");
+        }
+    }
 }
 
 /// "The largest cells that lie in an entry of at least one map and, for each map, lie in one of its

@@ -138,7 +138,7 @@ fn differing(drawn: &[Asked], ask: impl Fn(&Asked) -> Result<Figures, Refusal>) 
 /// By the right ones.
 type WrongFigures = (&'static str, fn(&Asked, Figures) -> Figures);
 
-const WRONG_FIGURES: [WrongFigures; 8] = [
+const WRONG_FIGURES: [WrongFigures; 9] = [
     ("entries before merging", |_, right| Figures {
         entries: right.cells,
         ..right
@@ -163,10 +163,19 @@ const WRONG_FIGURES: [WrongFigures; 8] = [
     }),
     ("a cell of both maps counted twice", |asked, right| {
         let (left, other) = (asked.input.left.entries(), asked.input.right.entries());
-        let seen = overlay(&left, &other, |_, count| count.split()).into_iter();
+        let seen = overlay(&left, &other, u32::split).into_iter();
         let both = seen.filter(|seen| seen.left.is_some() && seen.right.is_some());
         let cells = right.cells + both.count();
         Figures { cells, ..right }
+    }),
+    ("remainders shared from child 0 on", |asked, right| {
+        let (left, other) = (asked.input.left.entries(), asked.input.right.entries());
+        let split = |cell, count| u32::split(Cell { hash: 0, ..cell }, count);
+        let seen = overlay(&left, &other, split).into_iter();
+        let kept =
+            seen.filter_map(|seen| Some((seen.cell, u32::rule(1.0, seen.left, seen.right)?)));
+        let entries = Counting::right().entries(&asked.input, &kept.collect::<Vec<_>>());
+        Figures { entries, ..right }
     }),
     ("blank cells not counted", |asked, right| {
         let blanks = asked.kept.iter().filter(|(_, count)| *count == 0);

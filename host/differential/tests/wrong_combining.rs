@@ -4,9 +4,13 @@
 
 mod readings;
 
+use std::ops::Range;
+
 use differential::{
-    cells::Cell,
+    cells::{Cell, DEPTH_MAX},
+    compare::Kind,
     floats::Float,
+    kinds::Pool,
     lists::{Answer, Step},
     pairs::{overlay, Combine, Given, Input},
     random::Random,
@@ -17,8 +21,10 @@ use readings::{early, is_listed, late, wrong_checks, wrong_searches, Search};
 const DRAWN: usize = 5_000;
 
 struct Program<V: Combine> {
-    /// By the depth of what is split.
-    split: fn(u8, V) -> [V; 4],
+    /// By the cell that is split.
+    split: fn(Cell, V) -> [V; 4],
+    /// The cell that a split looks at, by the one that is split.
+    split_by: fn(&Input<V>, Cell) -> Cell,
     rule: fn(f64, Option<V>, Option<V>) -> Option<V>,
     /// How many merges may follow a cell, by the cells behind.
     most_merges: fn(usize) -> usize,
@@ -49,7 +55,8 @@ impl<V: Combine> Program<V> {
     /// The scope's.
     fn right() -> Self {
         Program {
-            split: |_, value| value.split(),
+            split: V::split,
+            split_by: |_, cell| cell,
             rule: V::rule,
             most_merges: |_| 29,
             are_siblings: |cells| {
@@ -72,7 +79,8 @@ impl<V: Combine> Program<V> {
 
     fn combined(&self, input: &Input<V>) -> Vec<(Cell, V)> {
         let (left, right) = (input.left.entries(), input.right.entries());
-        let seen = overlay(&left, &right, self.split).into_iter();
+        let split = |cell, value| (self.split)((self.split_by)(input, cell), value);
+        let seen = overlay(&left, &right, split).into_iter();
         let k = input.factor.0;
         let kept =
             seen.filter_map(|seen| Some((seen.cell, (self.rule)(k, seen.left, seen.right)?)));
@@ -147,8 +155,11 @@ struct Drawn<V: Combine>(Vec<(Input<V>, Option<Refusal>, Step<V>)>);
 impl<V: Combine> Drawn<V> {
     fn new(seed: u64) -> Self {
         let mut random = Random::new(seed);
-        let pairs = (0..DRAWN).map(|_| {
-            let input = Input::random(&mut random);
+        Self::of((0..DRAWN).map(|_| Input::random(&mut random)))
+    }
+
+    fn of(inputs: impl Iterator<Item = Input<V>>) -> Self {
+        let pairs = inputs.map(|input| {
             let (refusal, judged) = (input.refusal(), input.judged());
             (input, refusal, judged)
         });
@@ -276,47 +287,31 @@ impl<V: Combine> Drawn<V> {
 fn no_wrong_pool_is_missed() {
     let drawn = Drawn::<u32>::new(31);
     drawn.assert_all_found();
-    // Counts that a wrong split makes too large are cut off.
-    let split = |split| Program {
-        split,
-        rule: |_, left, right| Some(left.unwrap_or(0u32).saturating_add(right.unwrap_or(0))),
-        merged: |counts| counts.into_iter().fold(0, u32::saturating_add),
-        ..Program::right()
-    };
-    assert_eq!(drawn.differing(&split(|_, count| count.split())), 0);
+    assert_eq!(drawn.differing(&splitting(u32::split)), 0);
+    drawn.assert_found("a copy for each child", splitting(|_, count| [count; 4]));
     drawn.assert_found(
-        "the remainder to the last children",
-        split(|_, count| {
-            let [a, b, c, d] = count.split();
-            [d, c, b, a]
-        }),
+        "all to the first child",
+        splitting(|_, count| [count, 0, 0, 0]),
     );
-    drawn.assert_found(
-        "the remainder to the first child",
-        split(|_, count| [count / 4 + count % 4, count / 4, count / 4, count / 4]),
-    );
-    drawn.assert_found("the remainder lost", split(|_, count| [count / 4; 4]));
-    drawn.assert_found("a copy for each child", split(|_, count| [count; 4]));
-    drawn.assert_found("all to the first child", split(|_, count| [count, 0, 0, 0]));
     drawn.assert_found(
         "a level's split skipped",
-        split(|depth, count| match depth {
+        splitting(|cell, count| match cell.depth {
             5 => [count, 0, 0, 0],
-            _ => count.split(),
+            _ => u32::split(cell, count),
         }),
     );
     drawn.assert_found(
         "the last level's split skipped",
-        split(|depth, count| match depth {
+        splitting(|cell, count| match cell.depth {
             28 => [count, 0, 0, 0],
-            _ => count.split(),
+            _ => u32::split(cell, count),
         }),
     );
     drawn.assert_found(
         "the first level's split skipped",
-        split(|depth, count| match depth {
+        splitting(|cell, count| match cell.depth {
             0 => [count, 0, 0, 0],
-            _ => count.split(),
+            _ => u32::split(cell, count),
         }),
     );
     let rule = |rule| Program {
@@ -349,6 +344,110 @@ fn no_wrong_pool_is_missed() {
             ..Program::right()
         },
     );
+}
+
+/// A pool with another split. Counts that it makes too large are cut off.
+fn splitting(split: fn(Cell, u32) -> [u32; 4]) -> Program<u32> {
+    Program {
+        split,
+        rule: |_, left, right| Some(left.unwrap_or(0u32).saturating_add(right.unwrap_or(0))),
+        merged: |counts| counts.into_iter().fold(0, u32::saturating_add),
+        ..Program::right()
+    }
+}
+
+/// A quarter for each child, and one more as often as it is given.
+fn quarters(count: u32, given: impl Iterator<Item = u64>) -> [u32; 4] {
+    let mut four = [count / 4; 4];
+    given.for_each(|child| four[child as usize] += 1);
+    four
+}
+
+/// The extra ones, from 0 on.
+fn extra(count: u32) -> Range<u64> {
+    0..u64::from(count % 4)
+}
+
+/// The entry that was split first, down to this cell.
+fn entry_over(input: &Input<u32>, cell: Cell) -> Cell {
+    let zuniqs = input.left.zuniqs.iter().chain(&input.right.zuniqs);
+    let mut entries = zuniqs.filter_map(|&zuniq| Cell::of_zuniq(zuniq));
+    let is_over = |entry: &Cell| entry.depth <= cell.depth && entry.overlaps(cell);
+    entries.find(is_over).expect("what is split")
+}
+
+/// "The extra ones go to children h mod 4, (h + 1) mod 4 and onwards, (v mod 4) of them." Among the pairs
+/// drawn, and among the small ones of which nothing is merged.
+#[test]
+fn no_wrong_sharing_of_a_remainder_is_missed() {
+    assert_sharing_is_found(&Drawn::new(37));
+    let small = Pool::small().filter(|pair| pair.depth_threshold == DEPTH_MAX);
+    assert_sharing_is_found(&Drawn::of(small));
+}
+
+fn assert_sharing_is_found(drawn: &Drawn<u32>) {
+    macro_rules! found {
+        ($wrong:literal, split: $split:expr) => {
+            drawn.assert_found($wrong, splitting($split));
+        };
+        ($wrong:literal, split_by: $split_by:expr) => {
+            let program = Program {
+                split_by: $split_by,
+                ..Program::right()
+            };
+            drawn.assert_found($wrong, program);
+        };
+    }
+    let right = splitting(|cell, count| quarters(count, extra(count).map(|n| (cell.hash + n) % 4)));
+    assert_eq!(drawn.differing(&right), 0);
+    found!("from child 0 on, as before", split_by: |_, cell| Cell { hash: 0, ..cell });
+    found!("from the next child on", split_by: |_, cell| Cell { hash: cell.hash + 1, ..cell });
+    found!("by the depth", split_by: |_, cell| Cell { hash: cell.depth.into(), ..cell });
+    found!("by the cell one level above", split_by: |_, cell| Cell { hash: cell.hash / 4, ..cell });
+    found!("by the base cell", split_by: |_, cell| cell.ancestor(0));
+    found!("by the entry that was split first", split_by: entry_over);
+    found!("by the hash on the first level alone", split_by: |input, cell| {
+        if cell == entry_over(input, cell) { cell } else { Cell { hash: 0, ..cell } }
+    });
+    found!("by h mod 2", split_by: |_, cell| Cell { hash: cell.hash % 2, ..cell });
+    found!("by the hash of each child", split: |cell, count| {
+        let takes = |child: &u64| (child + 4 - (4 * cell.hash + child) % 4) % 4 < extra(count).end;
+        quarters(count, (0..4).filter(takes))
+    });
+    found!("one too many", split: |cell, count| {
+        quarters(count, (0..=extra(count).end).map(|n| (cell.hash + n) % 4))
+    });
+    found!("one too few", split: |cell, count| {
+        quarters(count, extra(count).skip(1).map(|n| (cell.hash + n) % 4))
+    });
+    found!("all lost", split: |_, count| [count / 4; 4]);
+    found!("downwards", split: |cell, count| {
+        quarters(count, extra(count).map(|n| (cell.hash + 4 - n) % 4))
+    });
+    found!("the children before h mod 4", split: |cell, count| {
+        quarters(count, extra(count).map(|n| (cell.hash + 3 - n) % 4))
+    });
+    found!("not going round", split: |cell, count| {
+        quarters(count, extra(count).map(|n| cell.hash % 4 + n).filter(|&child| child < 4))
+    });
+    found!("the last child taking what would go round", split: |cell, count| {
+        quarters(count, extra(count).map(|n| (cell.hash % 4 + n).min(3)))
+    });
+    found!("all to child h mod 4", split: |cell, count| {
+        quarters(count, extra(count).map(|_| cell.hash % 4))
+    });
+    found!("all to child 0", split: |_, count| quarters(count, extra(count).map(|_| 0)));
+    found!("to the last children", split: |_, count| {
+        quarters(count, extra(count).map(|n| 3 - n))
+    });
+    found!("the children in falling order", split: |cell, count| {
+        let [a, b, c, d] = u32::split(cell, count);
+        [d, c, b, a]
+    });
+    found!("a remainder of 3 alone", split: |cell, count| match count % 4 {
+        3 => u32::split(cell, count),
+        _ => quarters(count, extra(count)),
+    });
 }
 
 #[test]
@@ -467,9 +566,9 @@ fn no_wrong_product_is_missed() {
     drawn.assert_found(
         "a level's split skipped",
         Program {
-            split: |depth, density| match depth {
+            split: |cell, density| match cell.depth {
                 5 => [density, Float(0.0), Float(0.0), Float(0.0)],
-                _ => density.split(),
+                _ => Float::split(cell, density),
             },
             ..Program::right()
         },

@@ -13,8 +13,13 @@ use crate::{
 impl Combine for u32 {
     const CALL: &'static str = "pool";
 
-    fn split(self) -> [u32; 4] {
-        [0, 1, 2, 3].map(|child| self / 4 + u32::from(child < self % 4))
+    /// A child that is `past` children after h mod 4, going round, gets one of the extra ones if there are
+    /// more than that (note 10).
+    fn split(parent: Cell, count: u32) -> [u32; 4] {
+        [0, 1, 2, 3].map(|child| {
+            let past = (child + 4 - parent.hash % 4) % 4;
+            count / 4 + u32::from(past < u64::from(count % 4))
+        })
     }
 
     fn rule(_k: f64, left: Option<u32>, right: Option<u32>) -> Option<u32> {
@@ -56,6 +61,12 @@ impl Combine for u32 {
 
     fn few() -> &'static [u32] {
         &[1, 6]
+    }
+
+    /// Every remainder, of few and of as many as there can be.
+    fn shared() -> &'static [u32] {
+        const MOST: u32 = u32::MAX;
+        &[0, 1, 2, 3, 4, 5, 6, 7, MOST - 3, MOST - 2, MOST - 1, MOST]
     }
 
     fn original(input: &Input<u32>) -> Vec<(u64, u32)> {

@@ -15,8 +15,8 @@ use crate::{
 impl Combine for Float {
     const CALL: &'static str = "product";
 
-    fn split(self) -> [Float; 4] {
-        [self; 4]
+    fn split(_parent: Cell, density: Float) -> [Float; 4] {
+        [density; 4]
     }
 
     fn rule(k: f64, left: Option<Float>, right: Option<Float>) -> Option<Float> {
@@ -77,6 +77,10 @@ impl Combine for Float {
 
     fn few() -> &'static [Float] {
         &[Float(-0.0), Float(3.0)]
+    }
+
+    fn shared() -> &'static [Float] {
+        &[]
     }
 
     fn original(input: &Input<Float>) -> Vec<(u64, Float)> {

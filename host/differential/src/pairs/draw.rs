@@ -15,7 +15,8 @@ use crate::{
 impl<V: Combine> Input<V> {
     /// All pairs of maps in the first base cell down to depth 1, with few values, and with nothing but
     /// 0; and an entry of any depth in one of any other, at both ends and in between. Some of them also
-    /// under a list that protects a parent, or what might be taken for it.
+    /// under a list that protects a parent, or what might be taken for it. Also entries of every remainder
+    /// that are split under every hash mod 4.
     pub(super) fn small() -> impl Iterator<Item = Self> {
         let settings = [(0, 0.0), (0, 3.5), (0, f64::INFINITY), (1, f64::INFINITY)];
         let few = in_a_base_cell(V::few(), settings);
@@ -24,6 +25,7 @@ impl<V: Combine> Input<V> {
         let nested = nested(&[f64::NEG_INFINITY, f64::INFINITY]);
         protected::with_lists(few.chain(blank), Self::under_base_cell)
             .chain(protected::with_lists(nested, Self::under_nested))
+            .chain(shared())
     }
 
     /// Under the base cell; its first child; or both, and what lies outside.
@@ -241,6 +243,23 @@ pub fn nested<V: Combine>(thresholds: &'static [f64]) -> impl Iterator<Item = In
                 thresholds.iter().map(pair)
             })
         })
+    })
+}
+
+/// An entry of each of the first eight hashes over one that is one level or three below it, from the base
+/// cells down and down to depth 29, with nothing merged. On the way from one to the other each level has
+/// another child, so that no two levels share alike.
+fn shared<V: Combine>() -> impl Iterator<Item = Input<V>> {
+    let depths = [(0, 1), (0, 3), (26, 29), (28, 29)].into_iter();
+    let ways = [0b00_01_10, 0b01_10_11, 0b10_11_00, 0b11_00_01];
+    let entries = depths.flat_map(move |(depth, bottom)| {
+        let overs = (0..8).map(move |hash| Cell { depth, hash });
+        overs.flat_map(move |over| ways.map(|way| (over, over.descendant(bottom, way))))
+    });
+    entries.flat_map(|(over, under)| {
+        let map = |cell: Cell, value| Given::new(cell.depth, &[cell], vec![value]);
+        let pair = move |&value| Input::new(map(over, value), map(under, V::ZERO), DEPTH_MAX, 0.0);
+        V::shared().iter().map(pair).map(Input::with_places)
     })
 }
 

@@ -28,8 +28,8 @@ pub use overlay::{overlay, Seen};
 pub trait Combine: Value {
     const CALL: &'static str;
 
-    /// What an entry's four children get.
-    fn split(self) -> [Self; 4];
+    /// What the four children of a cell get, by the value that it has.
+    fn split(parent: Cell, value: Self) -> [Self; 4];
 
     /// What becomes of a cell of the overlay, by the values that it has in the left and the right map.
     fn rule(k: f64, left: Option<Self>, right: Option<Self>) -> Option<Self>;
@@ -51,6 +51,9 @@ pub trait Combine: Value {
 
     /// What the entries of the small maps have.
     fn few() -> &'static [Self];
+
+    /// What those have that are split under every hash: none, where a split doesn't look at the hash.
+    fn shared() -> &'static [Self];
 
     /// What the original makes of two maps.
     fn original(input: &Input<Self>) -> Vec<(u64, Self)>;

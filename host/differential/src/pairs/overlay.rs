@@ -11,12 +11,12 @@ pub struct Seen<V> {
 }
 
 /// "The largest cells that lie in an entry of at least one map and, for each map, lie in one of its
-/// entries or overlap none." An entry's value is split on the way down, by the depth that it is split
-/// at.
+/// entries or overlap none." An entry's value is split on the way down, by the cell that it is split
+/// in.
 pub fn overlay<V: Copy>(
     left: &[(Cell, V)],
     right: &[(Cell, V)],
-    split: impl Fn(u8, V) -> [V; 4],
+    split: impl Fn(Cell, V) -> [V; 4],
 ) -> Vec<Seen<V>> {
     let mut found = Vec::new();
     for hash in 0..12 {
@@ -45,9 +45,9 @@ impl<'a, V: Copy> Side<'a, V> {
         }
     }
 
-    fn children(self, cell: Cell, split: &impl Fn(u8, V) -> [V; 4]) -> [Self; 4] {
+    fn children(self, cell: Cell, split: &impl Fn(Cell, V) -> [V; 4]) -> [Self; 4] {
         match self {
-            Side::Over(value) => split(cell.depth, value).map(Side::Over),
+            Side::Over(value) => split(cell, value).map(Side::Over),
             Side::Under(entries) => cell.children().map(|child| Side::of(child, entries)),
         }
     }
@@ -65,7 +65,7 @@ impl<'a, V: Copy> Side<'a, V> {
 fn descend<V: Copy>(
     cell: Cell,
     [l, r]: [Side<V>; 2],
-    split: &impl Fn(u8, V) -> [V; 4],
+    split: &impl Fn(Cell, V) -> [V; 4],
     found: &mut Vec<Seen<V>>,
 ) {
     match (l.whole(), r.whole()) {

@@ -23,7 +23,7 @@ impl<V: Combine> Input<V> {
     /// The overlay cells of two valid maps that the rule keeps.
     pub fn kept(&self) -> Vec<(Cell, V)> {
         let (left, right) = (self.left.entries(), self.right.entries());
-        let cells = overlay(&left, &right, |_, value| V::split(value)).into_iter();
+        let cells = overlay(&left, &right, V::split).into_iter();
         let k = self.factor.0;
         cells
             .filter_map(|seen| V::rule(k, seen.left, seen.right).map(|value| (seen.cell, value)))
