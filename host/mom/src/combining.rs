@@ -153,11 +153,11 @@ fn pool_word(
 
 /// Pools two count maps into `zuniqs` and `counts`, which may hold anything. A cell that one map has
 /// keeps its count, a cell that both have gets the sum. Where an entry of one map has entries of the
-/// other in it, it is split: each of the four children gets a quarter of its count, and the first
-/// ones one more each, as many as are left over; so on, level by level. What comes out is merged
-/// under the two thresholds, as [`crate::add_counts`] merges: blank sky at any chi-square threshold, and
-/// other children of a parent in `protected` never. Every place after the entries is 0. A refused call
-/// leaves both buffers as they were.
+/// other in it, it is split: each of the four children gets a quarter of its count, and what is left over
+/// goes to them one each, from child h mod 4 on, h being the hash of the cell that is split, and after
+/// child 3 from child 0 on; so on, level by level. What comes out is merged under the two thresholds, as
+/// [`crate::add_counts`] merges: blank sky at any chi-square threshold, and other children of a parent in
+/// `protected` never. Every place after the entries is 0. A refused call leaves both buffers as they were.
 ///
 /// Refused by 1: a map's depth is over 29; then by 2: the depth threshold is over 29; then by 3: the
 /// chi-square threshold is a NaN; then by 15: a protected parent is not a valid zuniq, or not above the

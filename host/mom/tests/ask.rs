@@ -171,6 +171,23 @@ fn no_case_of_the_scope_is_missed() {
     );
 }
 
+/// 5 is shared as 2, 1, 1, 1, from child h mod 4 on, and 3 more in one child. In the child that got one more
+/// they make 5, 1, 1, 1, of chi 3, and in another one 4, 2, 1, 1, of chi less than 2.2.
+#[test]
+fn no_remainder_is_shared_otherwise_than_the_pool_shares_it() {
+    for (depth, hash) in (0..8).flat_map(|h| [(0, h), (1, h), (28, h)]) {
+        for child in 0..4 {
+            let (left, right) = (
+                map(depth, &[(depth, hash, 5)]),
+                map(depth + 1, &[(depth + 1, 4 * hash + child, 3)]),
+            );
+            let call = Call::of(&left, &right, (0, 2.5), &[]);
+            let entries = if child == hash % 4 { 4 } else { 1 };
+            assert_asked(&call, 4, entries, 8);
+        }
+    }
+}
+
 /// A figure and others: one beside it, far ones, those that a narrower number would take for it, and the
 /// two numbers that were asked.
 fn others(n: usize, asked: Figures) -> Vec<usize> {

@@ -1,5 +1,5 @@
-//! Pooling two count maps by the scope: its cases, and blank sky, in both orders, and every refusal with
-//! its number and place.
+//! Pooling two count maps by the scope: its cases, what is split, and blank sky, in both orders, and every
+//! refusal with its number and place.
 
 use mom::{pool, to_zuniq, Added, Map, Refusal};
 
@@ -77,22 +77,123 @@ fn no_case_of_the_scope_is_missed() {
     assert_pooled(&l, &r, 1, 3.5, 4, &apart);
 }
 
-/// Kept by M, since no T keeps four of 0.
+/// Which children get one more, by h mod 4 and v mod 4.
+const EXTRA: [[[u32; 4]; 4]; 4] = [
+    [[0, 0, 0, 0], [1, 0, 0, 0], [1, 1, 0, 0], [1, 1, 1, 0]],
+    [[0, 0, 0, 0], [0, 1, 0, 0], [0, 1, 1, 0], [0, 1, 1, 1]],
+    [[0, 0, 0, 0], [0, 0, 1, 0], [0, 0, 1, 1], [1, 0, 1, 1]],
+    [[0, 0, 0, 0], [0, 0, 0, 1], [1, 0, 0, 1], [1, 1, 0, 1]],
+];
+
+/// The children of a cell of hash h and count v.
+fn children((depth, hash, count): Entry) -> [Entry; 4] {
+    let extra = EXTRA[hash as usize % 4][count as usize % 4];
+    let child = |i: u64| (depth + 1, 4 * hash + i, count / 4 + extra[i as usize]);
+    [0, 1, 2, 3].map(child)
+}
+
+/// The first eight hashes of a depth, and the last eight.
+fn both_ends(depth: u8) -> impl Iterator<Item = u64> {
+    let n = 12 << (2 * depth);
+    (0..8).chain(n - 8..n)
+}
+
+/// Split over any of its children. Kept by M, since no T keeps four of 0.
 #[test]
-fn no_remainder_goes_to_the_last_children() {
-    for (count, split) in [
-        (0, [0, 0, 0, 0]),
-        (1, [1, 0, 0, 0]),
-        (2, [1, 1, 0, 0]),
-        (3, [1, 1, 1, 0]),
-        (4, [1, 1, 1, 1]),
-        (u32::MAX, [1 << 30, 1 << 30, 1 << 30, (1 << 30) - 1]),
-    ] {
-        let (l, r) = (map(3, &[(2, 7, count)]), map(3, &[(3, 30, 0)]));
-        let entries = [0, 1, 2, 3].map(|child| (3, 28 + child, split[child as usize]));
-        assert_pooled(&l, &r, 3, f64::NEG_INFINITY, 4, &entries);
-        if count > 0 {
-            assert_pooled(&l, &r, 0, f64::NEG_INFINITY, 4, &entries);
+fn no_remainder_goes_to_other_children_than_those_from_h_mod_4_on() {
+    let counts = (0..12).chain(u32::MAX - 3..=u32::MAX);
+    for depth in [0, 1, 13, 28] {
+        for (hash, count) in both_ends(depth).flat_map(|h| counts.clone().map(move |v| (h, v))) {
+            let entry = (depth, hash, count);
+            let four = children(entry);
+            for (d, h, _) in four {
+                let (l, r) = (map(depth, &[entry]), map(29, &[(d, h, 0)]));
+                assert_pooled(&l, &r, d, f64::NEG_INFINITY, 4, &four);
+                if count > 0 {
+                    assert_pooled(&l, &r, 0, f64::NEG_INFINITY, 4, &four);
+                }
+            }
+        }
+    }
+}
+
+/// A split through two levels, over any of the sixteen cells: the four of the second level start by the hash
+/// of the child that they are in.
+#[test]
+fn no_level_takes_the_start_of_another() {
+    for depth in [0, 1, 27] {
+        for (hash, count) in both_ends(depth).flat_map(|h| (0..32).map(move |v| (h, v))) {
+            let entry = (depth, hash, count);
+            let four = children(entry);
+            for cell in four.into_iter().flat_map(children) {
+                let in_child = |child: Entry| child.1 == cell.1 / 4;
+                let entries = four.into_iter().flat_map(|child| match in_child(child) {
+                    true => children(child).to_vec(),
+                    false => vec![child],
+                });
+                let entries: Vec<Entry> = entries.collect();
+                let (l, r) = (map(depth, &[entry]), map(29, &[(cell.0, cell.1, 0)]));
+                assert_pooled(&l, &r, 29, 0.0, 7, &entries);
+            }
+        }
+    }
+    // By hand: 7 is 1, 2, 2, 2 under hash 1, and 2 is 1, 0, 0, 1 under hash 7.
+    let (l, r) = (map(0, &[(0, 1, 7)]), map(2, &[(2, 30, 5)]));
+    let entries = [
+        (1, 4, 1),
+        (1, 5, 2),
+        (1, 6, 2),
+        (2, 28, 1),
+        (2, 29, 0),
+        (2, 30, 5),
+        (2, 31, 1),
+    ];
+    assert_pooled(&l, &r, 29, 0.0, 7, &entries);
+}
+
+/// Numbers that are the same in every run (Knuth's MMIX), of 31 bits.
+fn numbers() -> impl Iterator<Item = u64> {
+    let next = |n: &u64| {
+        let next = n.wrapping_mul(6364136223846793005);
+        Some(next.wrapping_add(1442695040888963407))
+    };
+    std::iter::successors(Some(10), next).map(|n| n >> 33)
+}
+
+/// Of any count under any hash; that none is lost is asked of every pool.
+#[test]
+fn no_child_gets_two_more_than_another() {
+    let mut numbers = numbers();
+    let mut number = || numbers.next().unwrap();
+    for depth in (0..=28).cycle().take(29 * 100) {
+        let hash = (number() << 31 | number()) % (12 << (2 * depth));
+        let count = number() as u32 >> (number() % 31);
+        let child = (depth + 1, 4 * hash + number() % 4, 0);
+        let (l, r) = (map(depth, &[(depth, hash, count)]), map(29, &[child]));
+        let parts = pooled(&l, &r, 29, 0.0, 4).unwrap();
+        let parts = parts.iter().map(|&(.., part)| part);
+        assert!(parts.clone().max() <= parts.min().map(|least| least + 1));
+    }
+}
+
+/// The scope's own rule, whatever h is: "children 0 to (v mod 4) − 1 one more".
+fn former_children((depth, hash, count): Entry) -> [Entry; 4] {
+    let part = |i: u64| count / 4 + (i < count as u64 % 4) as u32;
+    [0, 1, 2, 3].map(|i| (depth + 1, 4 * hash + i, part(i)))
+}
+
+/// Through three levels, on each of which the first child is split.
+#[test]
+fn no_parent_of_hash_0_mod_4_shares_otherwise_than_before() {
+    for (depth, hash) in [(0, 0), (0, 4), (0, 8), (5, 1000), (20, 4), (26, 12 << 50)] {
+        for count in (0..70).chain([1000, u32::MAX]) {
+            let entry = (depth, hash, count);
+            let one = former_children(entry);
+            let two = former_children(one[0]);
+            let three = former_children(two[0]);
+            let entries = [&three[..], &two[1..], &one[1..]].concat();
+            let (l, r) = (map(depth, &[entry]), map(29, &[(depth + 3, 64 * hash, 0)]));
+            assert_pooled(&l, &r, 29, 0.0, 10, &entries);
         }
     }
 }
@@ -181,16 +282,18 @@ fn no_empty_and_no_equal_map_is_refused() {
     );
 }
 
-/// The remainders gather in the first child on every level, so that cell 0 of depth 29 gets 1 of 1;
-/// what is split through 29 levels is merged through 29.
+/// One source goes down to the same corner on every level: child h mod 4 of hash h is of that hash mod 4
+/// itself. What is split through 29 levels is merged through 29.
 #[test]
 fn no_level_is_left_out_however_far_the_split_goes() {
-    for (top, bottom, of_bottom) in [(0, 0, 1), (11, (12 << 58) - 1, 0), (5, 5 << 58, 1)] {
+    for (top, corner) in (0..48).map(|way| (way / 4, way % 4)) {
+        let bottom = (top << 58) + corner * (((1 << 58) - 1) / 3);
         let (l, r) = (map(0, &[(0, top, 1)]), map(29, &[(29, bottom, 7)]));
         assert_pooled(&l, &r, 0, f64::INFINITY, 88, &[(0, top, 8)]);
-        let kept = pooled(&l, &r, 0, f64::NEG_INFINITY, 88).unwrap();
+        let kept = pooled(&l, &r, 29, f64::NEG_INFINITY, 88).unwrap();
         assert_eq!(kept.len(), 88);
         let found = kept.iter().find(|entry| (entry.0, entry.1) == (29, bottom));
+        let of_bottom = (top % 4 == corner) as u32;
         assert_eq!(found, Some(&(29, bottom, 7 + of_bottom)));
     }
 }

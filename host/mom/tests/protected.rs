@@ -134,11 +134,11 @@ impl Quad {
         let (depth, _) = self.parent;
         let (mut z, mut c) = ([5; 4], [5; 4]);
         let parent = [zuniq(self.parent)];
-        let left = map(depth, &parent, &[10]);
+        let left = map(depth, &parent, &[8]);
         let right = map(depth + 1, &self.zuniqs[1..2], &[3]);
         let pooled = pool(left, right, 0, INFINITY, list, &mut z, &mut c);
-        assert_eq!(pooled.map(|pooled| pooled.total), Ok(13));
-        self.is_kept((z, c), [3, 6, 2, 2], 13)
+        assert_eq!(pooled.map(|pooled| pooled.total), Ok(11));
+        self.is_kept((z, c), [2, 5, 2, 2], 11)
     }
 
     /// The same, asked for and then committed.
@@ -146,12 +146,12 @@ impl Quad {
         let (depth, _) = self.parent;
         let (mut z, mut c) = ([5; 4], [5; 4]);
         let parent = [zuniq(self.parent)];
-        let left = map(depth, &parent, &[10]);
+        let left = map(depth, &parent, &[8]);
         let right = map(depth + 1, &self.zuniqs[1..2], &[3]);
         let asked = ask(left, right, 0, INFINITY, list).unwrap();
-        assert_eq!((asked.cells, asked.total), (4, 13));
+        assert_eq!((asked.cells, asked.total), (4, 11));
         commit(left, right, 0, INFINITY, list, asked, &mut z, &mut c).unwrap();
-        let is_kept = self.is_kept((z, c), [3, 6, 2, 2], 13);
+        let is_kept = self.is_kept((z, c), [2, 5, 2, 2], 11);
         assert_eq!(asked.entries, if is_kept { 4 } else { 1 });
         is_kept
     }

@@ -403,11 +403,34 @@ fn merges_blanks(overlay: &[u64], zuniqs: &[u64], counts: &[u32]) -> bool {
     entries.any(|(zuniq, &count)| count == 0 && !overlay.contains(zuniq))
 }
 
+/// Accepted pools in which a cell of hash h shares v, by h mod 4 and v mod 4.
+#[derive(Default)]
+struct Shared([[usize; 4]; 4]);
+
+impl Shared {
+    /// By the cells that are split, with their counts.
+    fn add(&mut self, split: &[(plain::Cell, u32)]) {
+        let kind = |&((_, h), v): &(plain::Cell, u32)| (h as usize % 4, v as usize % 4);
+        for (first, extra) in split.iter().map(kind).collect::<BTreeSet<_>>() {
+            self.0[first][extra] += 1;
+        }
+    }
+
+    fn assert_some(self, name: &str) {
+        for (first, by_extra) in self.0.into_iter().enumerate() {
+            for (extra, times) in by_extra.into_iter().enumerate().skip(1) {
+                let what = format!("{extra} shared from child {first} on");
+                assert_some(name, &what, times);
+            }
+        }
+    }
+}
+
 #[test]
 fn combining() {
     let (mut pools, mut products) = (Met::default(), Met::default());
     let (mut of_counts, mut of_densities) = (Protected::default(), Protected::default());
-    let mut asking = Asking::default();
+    let (mut shared, mut asking) = (Shared::default(), Asking::default());
     // Pools in which blank sky is merged though its chi is not below T.
     let mut blank = 0;
     rounds("combining", |draw| {
@@ -428,6 +451,7 @@ fn combining() {
         pools.add(&answer);
         if let Ok((entries, _)) = answer {
             blank += (t <= 0.0 && merges_blanks(&before, &z[..entries], &n)) as usize;
+            shared.add(&plain::split_counts(&call, [&l, &r]));
         }
         if answer.is_ok() && !list.is_empty() {
             let (_, with_no_list, _) = plain::pool(&unprotected, [&l, &r], &z, &n);
@@ -453,6 +477,7 @@ fn combining() {
         assert_eq!(bits(&x), bits(&expected.2), "{}", shown());
     });
     assert_some("combining", "blank sky merged", blank);
+    shared.assert_some("combining");
     of_counts.assert_counts("combining");
     of_densities.assert_densities("combining");
     pools.assert_all(&[0, 1, 2, 3, 4, 5, 10, 11, 15]);

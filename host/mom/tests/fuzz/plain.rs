@@ -452,18 +452,34 @@ fn overlay_in(cell: Cell, maps: &[Vec<Cell>; 2], parts: &mut Vec<Part>) {
     }
 }
 
+/// The cells from an entry down to one that lies in it, each with its value: "level by level", a child's by
+/// its parent's, the parent's hash and which of the four it is.
+fn way_down<V: Copy>(
+    (zuniq, value): (u64, V),
+    (d, h): Cell,
+    split: impl Fn(V, u64, u64) -> V,
+) -> Vec<(Cell, V)> {
+    let entry = cell_of(zuniq).unwrap();
+    let mut way = vec![(entry, value)];
+    for level in entry.0 + 1..=d {
+        let ((_, parent), value) = way[way.len() - 1];
+        let child = h / 4u64.pow((d - level) as u32) % 4;
+        way.push(((level, 4 * parent + child), split(value, parent, child)));
+    }
+    way
+}
+
 /// The overlay cells with the values that the rule gives them; those that it drops are left out.
 fn ruled<V: Copy>(
     sides: &[Side<u64>; 2],
     values: [&[V]; 2],
-    split: impl Fn(V, u64) -> V,
+    split: impl Fn(V, u64, u64) -> V,
     rule: impl Fn(Option<V>, Option<V>) -> Option<V>,
 ) -> Vec<(Cell, V)> {
-    let value_at = |side: usize, place: usize, (d, h): Cell| {
-        let (e, _) = cell_of(sides[side].zuniqs[place]).unwrap();
-        // "Level by level".
-        let children = (e + 1..=d).map(|level| h / 4u64.pow((d - level) as u32) % 4);
-        children.fold(values[side][place], &split)
+    let value_at = |side: usize, place: usize, cell: Cell| {
+        let entry = (sides[side].zuniqs[place], values[side][place]);
+        let way = way_down(entry, cell, &split);
+        way[way.len() - 1].1
     };
     let value = |(cell, [left, right]): Part| {
         let left = left.map(|place| value_at(0, place, cell));
@@ -521,14 +537,37 @@ fn check_pool(call: &CombineCall, values: [&[u32]; 2], places: [usize; 2]) -> An
     refuse_if(total > u32::MAX as u64, 10, 0)
 }
 
+/// "Splitting v gives each child floor(v/4)." "For parent hash h the extra ones go to children h mod 4,
+/// (h + 1) mod 4 and onwards, (v mod 4) of them." (Request 10.)
+fn share(v: u32, h: u64, child: u64) -> u32 {
+    let mut extra = (0..v as u64 % 4).map(|onwards| (h + onwards) % 4);
+    v / 4 + extra.any(|to| to == child) as u32
+}
+
 /// The overlay cells with their counts.
 fn pooled(call: &CombineCall, values: [&[u32]; 2]) -> Vec<(Cell, u32)> {
-    let split = |v: u32, child: u64| v / 4 + (child < (v % 4) as u64) as u32;
     let rule = |left: Option<u32>, right: Option<u32>| match (left, right) {
         (Some(left), Some(right)) => Some(left + right),
         (alone, None) | (None, alone) => alone,
     };
-    ruled(&call.sides, values, split, rule)
+    ruled(&call.sides, values, share, rule)
+}
+
+/// The cells that are split for the overlay of two valid maps, with their counts, some more than once.
+pub fn split_counts(call: &CombineCall, values: [&[u32]; 2]) -> Vec<(Cell, u32)> {
+    let mut split = Vec::new();
+    for (cell, entries) in overlay(&call.sides).unwrap() {
+        for side in 0..2 {
+            let Some(place) = entries[side] else {
+                continue;
+            };
+            let entry = (call.sides[side].zuniqs[place], values[side][place]);
+            let mut way = way_down(entry, cell, share);
+            way.pop();
+            split.extend(way);
+        }
+    }
+    split
 }
 
 /// What is made of these cells in so many places, with the number of entries and their total.
@@ -610,7 +649,7 @@ pub fn product(
             }
         }
         let rule = |left: Option<f64>, right: Option<f64>| Some((call.k * left?) * right?);
-        let cells = ruled(&call.sides, values, |v, _| v, rule);
+        let cells = ruled(&call.sides, values, |v, _, _| v, rule);
         refuse_if(cells.iter().any(|(_, x)| !x.is_finite()), 10, 0)?;
         refuse_if(z.len() < cells.len(), 11, 0)?;
         Ok(cells)
