@@ -267,8 +267,9 @@ uint64_t mom_add_densities(uint8_t depth, uint8_t depth_threshold, double chi2_t
 /* Pools two count maps, each with a depth of its own, into zuniqs and counts, which may hold
  * anything. A cell that one map has keeps its count, a cell that both have gets the sum. An
  * entry of one map that has entries of the other in it is split: each of its children gets a
- * quarter of its count, and the first ones one more each, as many as are left over; so on, level
- * by level. The cells are then merged by the count merger under depth_threshold, chi2_threshold and
+ * quarter of its count, and what is left over goes to them one each, from child h mod 4 on, h being
+ * the hash of the cell that is split, and after child 3 from child 0 on; so on, level by level. The
+ * cells are then merged by the count merger under depth_threshold, chi2_threshold and
  * protected_parents, as mom_add_counts does: blank sky at any chi2_threshold. The value is the number
  * of entries and *total = the sum of their counts; every place after the entries is 0. By a refusal
  * both buffers and *total are left as they were.

@@ -195,6 +195,46 @@ static void pooling(void) {
            "a pool of no entries");
 }
 
+/* Whether these are the children's counts where a base cell is split over its first child, which has
+ * none. Nothing is merged, by M = 1. */
+static int shared(uint64_t hash, uint32_t count, uint32_t n0, uint32_t n1, uint32_t n2,
+                  uint32_t n3) {
+    const uint64_t base[1] = {(2 * hash + 1) << 58}, first[1] = {(8 * hash + 1) << 56};
+    const uint32_t whole[1] = {count}, none[1] = {0};
+    uint64_t zuniqs[4];
+    uint32_t counts[4], total;
+    return answers(mom_pool(0, base, 1, whole, 1, 1, first, 1, none, 1, 1, 0, unlisted, 0, zuniqs, 4,
+                            counts, 4, &total), MOM_ACCEPTED, 4) &&
+           total == count && zuniqs[0] == first[0] && counts[0] == n0 && counts[1] == n1 &&
+           counts[2] == n2 && counts[3] == n3;
+}
+
+static void sharing(void) {
+    /* (0,1) and (2,29), which lies in (1,7). */
+    const uint64_t base[1] = {UINT64_C(3) << 58}, last[1] = {UINT64_C(59) << 54};
+    const uint32_t seven[1] = {7}, none[1] = {0};
+    uint64_t zuniqs[7];
+    uint32_t counts[7], total;
+
+    expect(shared(0, 1, 1, 0, 0, 0) && shared(0, 6, 2, 2, 1, 1) && shared(0, 7, 2, 2, 2, 1),
+           "remainders under hash 0");
+    expect(shared(1, 1, 0, 1, 0, 0) && shared(1, 6, 1, 2, 2, 1) && shared(1, 7, 1, 2, 2, 2),
+           "remainders under hash 1");
+    expect(shared(2, 1, 0, 0, 1, 0) && shared(2, 6, 1, 1, 2, 2) && shared(2, 7, 2, 1, 2, 2),
+           "remainders under hash 2");
+    expect(shared(3, 1, 0, 0, 0, 1) && shared(3, 6, 2, 1, 1, 2) && shared(3, 7, 2, 2, 1, 2),
+           "remainders under hash 3");
+    expect(shared(4, 1, 1, 0, 0, 0) && shared(11, 1, 0, 0, 0, 1), "one source under 4 and 11");
+    expect(shared(3, 8, 2, 2, 2, 2) && shared(3, 0, 0, 0, 0, 0), "no remainder under hash 3");
+    expect(shared(2, UINT32_MAX, UINT32_C(1) << 30, (UINT32_C(1) << 30) - 1, UINT32_C(1) << 30,
+                  UINT32_C(1) << 30), "the largest count under hash 2");
+    expect(answers(mom_pool(0, base, 1, seven, 1, 2, last, 1, none, 1, 2, 0, unlisted, 0, zuniqs, 7,
+                            counts, 7, &total), MOM_ACCEPTED, 7) && total == 7 &&
+           counts[0] == 1 && counts[1] == 2 && counts[2] == 2 && counts[3] == 1 &&
+           counts[4] == 0 && zuniqs[4] == last[0] && counts[5] == 0 && counts[6] == 1,
+           "two levels, each by its own parent");
+}
+
 /* Asking for the pool of (0,0) of 10 and (1,1) of 3, with numbers before, between and behind the three
  * figures, all of them 5. */
 struct asked {
@@ -1392,6 +1432,7 @@ int main(void) {
     rows();
     maps_of_rows();
     pooling();
+    sharing();
     asking();
     asking_for_much_and_nothing();
     committing();
