@@ -13,7 +13,8 @@
 # the two. The random texts and arguments are drawn from a seed of their own, the same in every run.
 # Last, that the stored answers in crates/replay/stdin are those that the original gives, that both
 # sides of the benchmark answer alike, that the chi-square is as near to the exact one as note 9 has it,
-# at millions of quadruples, and that gzip makes less of a million rows by byte column.
+# at millions of quadruples, that a million odd sources are shared as note 10 has it, and that gzip makes
+# less of a million rows by byte column.
 #
 # The last line is `N passed, M failed` over everything that was counted; the status is 0 where M is 0.
 # Lines `K skipped: WHAT (WHY)` stand before it, K being the number of tests: where docs/src or the
@@ -160,6 +161,12 @@ chi_error_example() {
     cd mom && one cargo run --quiet --release --example chi_error
 }
 
+# The example of where odd sources go. It fails where the pool differs from a reading of the note at any
+# cell, and where a source is lost or not in the corner of its parent.
+sharing_example() {
+    cd mom && one cargo run --quiet --release --example sharing
+}
+
 # The example of what byte columns are for; it fails where they are not smaller or don't come back.
 columns_example() {
     cd mom && one cargo run --quiet --release --example columns
@@ -225,6 +232,7 @@ else
     skip "everything beside the original" "$reason" "${beside[@]}"
 fi
 part "how near the chi-square is" chi_error_example
+part "how an odd source is shared" sharing_example
 if command -v gzip > /dev/null; then
     part "byte columns, compressed" columns_example
 else
