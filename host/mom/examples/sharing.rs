@@ -247,8 +247,8 @@ impl Tally {
         }
         let mut report = format!(
             "{sources} odd sources, split {LEVELS} levels down into {} cells\n\
-             corner                before                after",
-            self.cells
+             {:9} {:>21} {:>21}",
+            self.cells, "corner", "before", "after"
         );
         let share = |number: u64| {
             let percent = 100.0 * number as f64 / sources as f64;
