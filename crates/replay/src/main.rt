@@ -57,7 +57,7 @@ use line::read;
 use print::print_answer;
 use tally::Tally;
 
-// The input has some 263,000 bytes.
+// The input has some 265,000 bytes.
 const MAX_INPUT: usize = 327_680;
 
 fn main() {

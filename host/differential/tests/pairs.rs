@@ -1,6 +1,6 @@
 //! The pairs of maps drawn: none of what they are to show is rare, and pooling has no order.
 
-use std::{cell::RefCell, collections::BTreeSet, fmt::Display};
+use std::{collections::BTreeSet, fmt::Display};
 
 use differential::{
     cells::{cells_to, Cell, DEPTH_MAX},
@@ -29,22 +29,15 @@ fn drawn<V: Combine>(seed: u64) -> Vec<Drawn<V>> {
     let draw = |_| {
         let input = Input::<V>::random(&mut random);
         let judged = input.judged();
-        let split = RefCell::new(vec![]);
-        let seen = match judged.0 {
-            Ok(_) => {
-                let (left, right) = (input.left.entries(), input.right.entries());
-                overlay(&left, &right, |cell, value| {
-                    split.borrow_mut().push((cell, value));
-                    V::split(cell, value)
-                })
-            }
-            Err(_) => vec![],
+        let (seen, split) = match judged.0 {
+            Ok(_) => input.overlaid(),
+            Err(_) => (vec![], vec![]),
         };
         Drawn {
             input,
             judged,
             seen,
-            split: split.into_inner(),
+            split,
         }
     };
     (0..DRAWN).map(draw).collect()

@@ -1,9 +1,11 @@
 //! The judge of refusals: the scope's table, for pool and product calls, and for what note 8 of 02 makes of
 //! a pool.
 
+use std::cell::RefCell;
+
 use mom::{Figures, Refusal};
 
-use super::{overlay, Combine, Given, Input};
+use super::{overlay, Combine, Given, Input, Seen};
 use crate::{
     cells::{Cell, DEPTH_MAX},
     maps::faulty_entry,
@@ -20,6 +22,17 @@ impl<V: Combine> Given<V> {
 }
 
 impl<V: Combine> Input<V> {
+    /// The overlay of two valid maps, and the cells that are split for it on every level, with their values.
+    pub fn overlaid(&self) -> (Vec<Seen<V>>, Vec<(Cell, V)>) {
+        let (left, right) = (self.left.entries(), self.right.entries());
+        let split = RefCell::new(vec![]);
+        let seen = overlay(&left, &right, |cell, value| {
+            split.borrow_mut().push((cell, value));
+            V::split(cell, value)
+        });
+        (seen, split.into_inner())
+    }
+
     /// The overlay cells of two valid maps that the rule keeps.
     pub fn kept(&self) -> Vec<(Cell, V)> {
         let (left, right) = (self.left.entries(), self.right.entries());

@@ -1,7 +1,8 @@
-//! Section 5: pools and products of small maps; and pools that are asked for before they are done.
+//! Section 5: pools and products of small maps; pools that are asked for before they are done, and pools that
+//! share a remainder.
 
 use differential::{
-    cells::Cell,
+    cells::{Cell, DEPTH_MAX},
     floats::Float,
     lists::Value,
     pairs::{Combine, Given, Input, Pooled},
@@ -153,6 +154,9 @@ const COMMITTED: usize = 4;
 const MOST_ENTRIES: usize = 4;
 const MOST_CELLS: usize = 4;
 
+/// The cells of a pair that shows how a count is shared: one level down, or two.
+const MOST_SHARED: usize = 7;
+
 /// Note 8 of 02: the figures, the cells being those that the original's rule is handed, and commits of them.
 pub fn print_asked(random: &mut Random) {
     for number in 0..ASKED {
@@ -189,6 +193,33 @@ fn draw_asked(random: &mut Random, number: usize, most_cells: usize) -> (Input<u
         };
         if is_chosen && entries <= MOST_ENTRIES && pooled.cells <= most_cells && meet(&input) {
             return (input, pooled);
+        }
+    }
+}
+
+/// Note 10 of 02: for each h mod 4 but 0, under which nothing changed, and each v mod 4 but 0 a pair in which
+/// such a cell shares such a count. Nothing is merged, so that every part is seen.
+pub fn print_shared(random: &mut Random) {
+    for first in 1..4 {
+        for extra in 1..4 {
+            let input = draw_shared(random, first, extra);
+            line(&input, &u32::original(&input), with_total).print();
+        }
+    }
+}
+
+fn draw_shared(random: &mut Random, first: u64, extra: u32) -> Input<u32> {
+    loop {
+        let mut input = Input::<u32>::any(random);
+        input.protected.clear();
+        input.depth_threshold = DEPTH_MAX;
+        let entries = input.left.zuniqs.len() + input.right.zuniqs.len();
+        if entries > MOST_ENTRIES || input.refusal().is_some() || input.kept().len() > MOST_SHARED {
+            continue;
+        }
+        let shares = |&(cell, count): &(Cell, u32)| cell.hash % 4 == first && count % 4 == extra;
+        if input.overlaid().1.iter().any(shares) {
+            return input;
         }
     }
 }

@@ -30,6 +30,7 @@ fn main() {
     print_narrow(&mut random(8));
     print_blank();
     combining::print_asked(&mut random(9));
+    combining::print_shared(&mut random(10));
 }
 
 /// Narrow maps, and moving between the widths.
@@ -49,7 +50,8 @@ fn print_blank() {
     combining::print_blank();
 }
 
-/// The numbers that the arguments of a section are drawn from; 8 is for narrow maps, 9 for asking.
+/// The numbers that the arguments of a section are drawn from; 8 is for narrow maps, 9 for asking,
+/// 10 for sharing.
 fn random(section: u64) -> Random {
     Random::part(1, section)
 }
