@@ -174,6 +174,22 @@ pub fn count_map<Z: Width>(depth: u8, number: usize, seed: u64) -> Map<u32, Z> {
     Map::of(depth, &entries)
 }
 
+/// The first cells of a depth with Poisson counts of mean 8, and a blank cell five levels below each of them,
+/// any one: every entry of the first map is split on five levels.
+pub fn split_maps(depth: u8, number: usize) -> [Map<u32>; 2] {
+    let over = first_cells::<u64>(depth, number);
+    let mut random = Random::new(17);
+    let below = |cell: Cell| cell.descendant(depth + 5, random.bits());
+    let under: Vec<(u64, u32)> = over
+        .cells()
+        .map(below)
+        .map(|cell| (cell.zuniq(), 0))
+        .collect();
+    let zuniqs = over.cells().map(|cell| cell.zuniq());
+    let over: Vec<(u64, u32)> = zuniqs.zip(over.values.iter().copied()).collect();
+    [Map::of(depth, &over), Map::of(depth + 5, &under)]
+}
+
 pub fn density_map(counts: &Map<u32>) -> Map<f64> {
     let density = |(&zuniq, &count): (&u64, &u32)| {
         let (depth, _) = mom::from_zuniq(zuniq).unwrap();

@@ -9,7 +9,7 @@ use oracle::run;
 
 use super::Plan;
 use crate::{
-    inputs::{count_map, density_map, parents_of, Map},
+    inputs::{count_map, density_map, parents_of, split_maps, Map},
     measure::{
         alone, contest, heading_of_asking, heading_with_extra, in_turns, row_of_asking,
         row_with_extra, timed, Extra,
@@ -39,10 +39,17 @@ pub fn run(plan: Plan) {
         left: &shallow,
         ..pair
     };
+    let [over, under] = split_maps(depth - 2, number / 8);
+    let split = Pair {
+        left: &over,
+        right: &under,
+        ..apart
+    };
     heading_with_extra("Combining", "entry", "entries");
     pool(plan, "pool, T 7.815", pair);
     pool(plan, "pool, T -1", apart);
     pool(plan, "pool, shallow with deep, T 7.815", deep);
+    pool(plan, "pool, all split five levels down, T -1", split);
     products(plan, [&left, &right, &shallow].map(density_map));
     let lists = [0, 1, 1_000, 100_000].map(|protected| {
         let cells = left.cells().chain(right.cells());
@@ -57,6 +64,7 @@ pub fn run(plan: Plan) {
     ask(plan, "T 7.815", pair);
     ask(plan, "T -1", apart);
     ask(plan, "shallow with deep, T 7.815", deep);
+    ask(plan, "all split five levels down, T -1", split);
     let [.., protected] = &lists;
     let work = format!("T 7.815, {} protected", protected.len());
     ask(plan, &work, Pair { protected, ..pair });
@@ -198,7 +206,7 @@ fn combine<V: Copy + Default + PartialEq>(
     original: impl Fn(Vec<(u64, V)>, Vec<(u64, V)>, (u8, u8)) -> Vec<(u64, V)>,
 ) {
     // More places than the overlay of the two has cells.
-    let most = (4 * (left.len() + right.len())).min(12 << (2 * left.depth.max(right.depth)));
+    let most = (8 * (left.len() + right.len())).min(12 << (2 * left.depth.max(right.depth)));
     let (mut zuniqs, mut values) = (vec![0; most], vec![V::default(); most]);
     let needed = least_accepted(most, |n| {
         ours(left, right, &mut zuniqs[..n], &mut values[..n]).is_ok()
