@@ -1,5 +1,5 @@
 -- The calls as they were before note 7 of document 02, when none took a list of protected parents: what the laws of proofs/Unlisted compare
--- with.
+-- with. What a later note moved is here as it is now: counts are split by the parent's hash (note 10).
 use mathlib.Core.Bool.{_&&_, cond}
 use mathlib.Core.List.{List, reverse}
 use mathlib.Core.Option.{Option}

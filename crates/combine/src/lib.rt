@@ -3,7 +3,7 @@
 // and the product of two density maps are two such rules.
 //
 // The calls, with their walks, are in `pool` and `product`. Here are the definitions and laws of
-// both, what a walk is made of, and the checks that they share.
+// both, what a walk is made of, how a count is split, and the checks that they share.
 ghost use mathlib.Core.Path.{_≡_};
 ghost use Rattle.mom.specs.Map.{firstFault};
 ghost use Rattle.refusal.specs.Checks.{orElse, checkOf};
