@@ -60,17 +60,17 @@ pub split-as-before : (d h v i : ℕ) → h % 4 ≡ 0 → i < 4 → splitCount d
 unfolding formerSplitCount
 split-as-before d h v i z u = split-count-by-turn d h v i u ∙ ap (λ (k : ℕ). v / 4 + cond (ltb k (v % 4)) 1 0) (omega arith)
 
-module _ (P : List ℕ) (l r : Given ℕ) (M : ℕ) (T : Float) where
-  -- An overlay has as many cells as before,
-  pub cells-as-before : length (overlay splitCount (resultDepth l r) (entries l) (entries r)) ≡ length (overlay formerSplitCount (resultDepth l r) (entries l) (entries r))
-  cells-as-before = overlay-number splitCount formerSplitCount (entries l) (entries r) (resultDepth l r)
+-- An overlay has as many cells as before,
+pub cells-as-before : (l r : Given ℕ) → length (overlay splitCount (resultDepth l r) (entries l) (entries r)) ≡ length (overlay formerSplitCount (resultDepth l r) (entries l) (entries r))
+cells-as-before l r = overlay-number splitCount formerSplitCount (entries l) (entries r) (resultDepth l r)
 
+module _ (P : List ℕ) (l r : Given ℕ) (M : ℕ) (T : Float) where
   -- so that every pool is refused when, and as, it was.
   pub pool-refused-as-before : (places values : ℕ) → poolRefusal P l r M T places values ≡ poolRefusalWith formerSplitCount P l r M T places values
   unfolding poolRefusal poolRefusalWith
   pool-refused-as-before places values =
       ap (λ (n : ℕ). orElse (poolInputRefusal P l r M T places values) (placesRefusal places n))
-      (pool-keeps-length (overlay splitCount (resultDepth l r) (entries l) (entries r)) ∙ cells-as-before ∙ sym (pool-keeps-length (overlay formerSplitCount (resultDepth l r) (entries l) (entries r))))
+      (pool-keeps-length (overlay splitCount (resultDepth l r) (entries l) (entries r)) ∙ cells-as-before l r ∙ sym (pool-keeps-length (overlay formerSplitCount (resultDepth l r) (entries l) (entries r))))
 
   -- "unchanged, since the only h split is 0": a pool in which no cell is split whose h mod 4 is not 0 answers and leaves what it did.
   pub pool-as-before : ((d h : ℕ) → IsSplit (entries l) (entries r) d h → h % 4 ≡ 0) → (zs vs : List ℕ) → poolCounts P l r M T zs vs ≡ poolCountsWith formerSplitCount P l r M T zs vs

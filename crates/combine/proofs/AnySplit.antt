@@ -1,5 +1,4 @@
--- What depends on how values are split, and what does not: of the overlay its values alone do, and these only on how cells are split that are. Assumes
--- nothing.
+-- Which cells the overlay has does not depend on how values are split; the values do, and only on how those cells are that are split. Assumes nothing.
 use mathlib.Core.Path.{_≡_, refl, ap, sym, _∙_}
 use mathlib.Core.Bool.{Bool, true, false, _&&_, cond}
 use mathlib.Core.List.{List, [], _∷_, map}
@@ -99,14 +98,17 @@ module _ {A : Type 0} where
             go true q k = ap some (part-alike e (λ a b k. covers a b (inl k)) (d - e .depth) d h refl q u)
             go false q k = k
 
+        seen-alike : (d h : ℕ) → Reached d h → seenAt s l r d h ≡ seenAt t l r d h
+        seen-alike d h u = rw (value-alike l (λ a b k. inl k) d h u, value-alike r (λ a b k. inr k) d h u) refl
+
         in-alike : (n d h : ℕ) → Reached d h → overlayIn s l r n d h ≡ overlayIn t l r n d h
         unfolding overlayIn
-        in-alike zero d h u = rw (value-alike l (λ a b k. inl k) d h u, value-alike r (λ a b k. inr k) d h u) refl
+        in-alike zero d h u = ap (λ (x : Option (Seen A)). cond (fits l d h && fits r d h) (itselfOr d h x []) []) (seen-alike d h u)
         in-alike (suc n) d h u = go (fits l d h && fits r d h) refl (in-alike n (suc d))
           where
             go : (f : Bool) → (fits l d h && fits r d h) ≡ f → ((k : ℕ) → Reached (suc d) k → overlayIn s l r n (suc d) k ≡ overlayIn t l r n (suc d) k)
                 → cond f (itselfOr d h (seenAt s l r d h) []) (joined 4 (λ i. overlayIn s l r n (suc d) (4 * h + i))) ≡ cond f (itselfOr d h (seenAt t l r d h) []) (joined 4 (λ i. overlayIn t l r n (suc d) (4 * h + i)))
-            go true q below = rw (value-alike l (λ a b k. inl k) d h u, value-alike r (λ a b k. inr k) d h u) refl
+            go true q below = ap (λ (x : Option (Seen A)). itselfOr d h x []) (seen-alike d h u)
             go false q below = joined-below 4 _ _ (λ i k. let p : (4 * h + i) / 4 ≡ h = omega arith in below (4 * h + i) (rw p (q, u)))
 
         -- They have the same overlay, values and all.
