@@ -1,5 +1,5 @@
--- The laws of entries and of lists of them: some entry, an entry of the list, and totals. Assumes nothing.
-use mathlib.Core.Path.{_≡_, refl}
+-- The laws of entries and of lists of them: lists joined, some entry, an entry of the list, and totals. Assumes nothing.
+use mathlib.Core.Path.{_≡_, refl, ap₂}
 use mathlib.Core.Bool.{true}
 use mathlib.Core.List.{List, [], _∷_, _++_, reverse, reverseAux}
 use mathlib.Core.Logic.{_⊎_, inl, inr, ⊎-elim, ⊎-map, _↔_}
@@ -19,6 +19,16 @@ below-four P p0 p1 p2 p3 (suc zero) u = p1
 below-four P p0 p1 p2 p3 (suc (suc zero)) u = p2
 below-four P p0 p1 p2 p3 (suc (suc (suc zero))) u = p3
 below-four P p0 p1 p2 p3 (suc (suc (suc (suc i)))) u = absurd (omega arith)
+
+-- Lists that are the same one by one are the same joined: where those below n are,
+pub joined-below : {B : Type 0} (n : ℕ) (g k : ℕ → List B) → ((i : ℕ) → i < n → g i ≡ k i) → joined n g ≡ joined n k
+unfolding joined
+joined-below zero g k q = refl
+joined-below (suc n) g k q = ap₂ _++_ (joined-below n g k (λ i u. q i (omega arith))) (q n (omega arith))
+
+-- and so where all are.
+pub joined-ext : {B : Type 0} (n : ℕ) (g k : ℕ → List B) → ((i : ℕ) → g i ≡ k i) → joined n g ≡ joined n k
+joined-ext n g k q = joined-below n g k (λ i u. q i)
 
 module _ {A : Type 0} where
   -- An entry is its depth, its hash and its value.

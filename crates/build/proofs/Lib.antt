@@ -8,6 +8,7 @@ pub mod Tops
 pub mod Totals
 pub mod Law
 pub mod DefinedMap
+pub mod AnyMerger
 pub mod Order
 pub mod Buffers
 pub mod Calls

@@ -6,7 +6,7 @@ use mathlib.Core.List.{List, [], _∷_}
 use mathlib.Core.Logic.{_⊎_}
 use mathlib.Core.Option.{none, some}
 use Prim.Native.Nat.{ℕ, suc, _+_, _/_, _-_, _≤_, _<_}
-use Rattle.zuniq.specs.Cells.{nHash, liesIn, overlap, start, end}
+use Rattle.zuniq.specs.Cells.{nHash, childHash, liesIn, overlap, start, end}
 use Rattle.zuniq.specs.Codec.{zuniq}
 use Rattle.build.specs.Map.{Entry, Merger, whole}
 
@@ -79,3 +79,9 @@ module _ {A : Type 0} (accept : Merger A) (D : ℕ) (l : List (Entry A)) where
   -- "whose parent isn't whole": "Depth-0 cells have no parent"
   abbrev pub NoWholeParent : Entry A → Type 0
   NoWholeParent e = (p : ℕ) → e .depth ≡ suc p → whole accept l (D - p) p (e .hash / 4) ≡ none
+
+  -- "its four children are whole", with these values
+  abbrev pub WholeChildren : ℕ → ℕ → A → A → A → A → Type 0
+  WholeChildren d h a b c e =
+      (whole accept l (D - suc d) (suc d) (childHash h 0) ≡ some a) × (whole accept l (D - suc d) (suc d) (childHash h 1) ≡ some b)
+      × (whole accept l (D - suc d) (suc d) (childHash h 2) ≡ some c) × (whole accept l (D - suc d) (suc d) (childHash h 3) ≡ some e)

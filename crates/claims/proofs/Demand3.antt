@@ -1,6 +1,6 @@
 -- Demand 3 holds of every list of count add calls, and of pooling two maps so made, in one call or asked before done. Assumes nothing.
 use mathlib.Core.Path.{_≡_, refl, ap, ap₂, sym, _∙_, subst}
-use mathlib.Core.Bool.{true}
+use mathlib.Core.Bool.{true, false}
 use mathlib.Core.List.{List, [], _∷_, map, reverse, reverse-reverse}
 use mathlib.Core.Logic.{_↔_, inl, inr, ⊎-elim}
 use mathlib.Core.Option.{Option, none, some, Option·some-ne-none}
@@ -14,6 +14,7 @@ use Rattle.zuniq.specs.Cells.{nHash, liesIn}
 use Rattle.refusal.specs.declared.Refusal.{Refusal}
 use Rattle.zuniq.proofs.Basics.{le-or-lt}
 use Rattle.zuniq.proofs.Ranges.{lies-in-self, lies-in-same-depth}
+use Rattle.protection.specs.Protected.{isProtected}
 use Rattle.merger.specs.Merge.{acceptCounts}
 use Rattle.merger.proofs.Accept.{accept-counts-iff-merged, accepted-count-is-sum}
 use Rattle.merger.proofs.Blank.{blank-merges}
@@ -144,12 +145,12 @@ module _ (K : ℕ) (a : AddCalls) where
         reported = report-is;
       }
 
-  -- No four blank siblings remain whose parent's depth is at least M, whatever T is (note 4 of 02).
-  pub no-blank-siblings : (d h : ℕ) → Has (mapOf K a) (child d h 0 0) → Has (mapOf K a) (child d h 1 0) → Has (mapOf K a) (child d h 2 0) → Has (mapOf K a) (child d h 3 0) → d < a .M
-  no-blank-siblings d h c0 c1 c2 c3 = ⊎-elim (λ l. absurd (merged l)) (λ l. l) (le-or-lt (a .M) d)
+  -- No four blank siblings remain whose parent's depth is at least M, whatever T is (note 4 of 02), unless it is protected (note 11).
+  pub no-blank-siblings : (d h : ℕ) → isProtected K (a .parents) d h ≡ false → Has (mapOf K a) (child d h 0 0) → Has (mapOf K a) (child d h 1 0) → Has (mapOf K a) (child d h 2 0) → Has (mapOf K a) (child d h 3 0) → d < a .M
+  no-blank-siblings d h free c0 c1 c2 c3 = ⊎-elim (λ l. absurd (merged l)) (λ l. l) (le-or-lt (a .M) d)
     where
       merged : a .M ≤ d → ⊥
-      merged l = Option·some-ne-none 0 (sym (accept-counts-iff-merged K (a .parents) (a .M) (a .T) d h 0 0 0 0 0 .1 (blank-merges K (a .parents) (a .M) (a .T) d h l)) ∙ add-calls-claim .settled d h 0 0 0 0 c0 c1 c2 c3)
+      merged l = Option·some-ne-none 0 (sym (accept-counts-iff-merged K (a .parents) (a .M) (a .T) d h 0 0 0 0 0 .1 (blank-merges K (a .parents) (a .M) (a .T) d h free l)) ∙ add-calls-claim .settled d h 0 0 0 0 c0 c1 c2 c3)
 
   -- At depth 0 the map is the accepted cells, joined.
   pub base-cells-joined : a .D ≡ 0 → mapOf K a ≡ joinedList K a

@@ -3,3 +3,4 @@ pub mod Answers
 pub mod Former
 pub mod Unlisted
 pub mod Protected
+pub mod BlankFirst

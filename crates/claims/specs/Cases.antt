@@ -24,9 +24,10 @@ use Rattle.merger.specs.declared.CountMerge.{CountMerge}
 use Rattle.merger.specs.declared.CountMerger.{CountMerger}
 use Rattle.mom.specs.Map.{isYes, overlaps, faultAfter, faultOf, faultAt, atOr, faultFrom, firstFault}
 use Rattle.build.specs.Map.{Entry, entry, joined, listed, whole, tops, definedMap}
+use Rattle.build.specs.Stack.{step, collapseUpTo, collapse, run}
 use Rattle.build.specs.Buffers.{batch, laid, filled, readOnto, held}
-use Rattle.build.specs.Add.{settingsRefusal, lengthsRefusal, mapRefusal, sumOf, spaceRefusal}
-use Rattle.build.specs.Calls.{addCall}
+use Rattle.build.specs.Add.{settingsRefusal, lengthsRefusal, cellRefusal, cellsRefusal, sumRefusal, totalRefusal, mapRefusal, sumOf, cellEnd, mapEnd, spaceRefusal}
+use Rattle.build.specs.Calls.{Buffers, addCall}
 use Rattle.build.specs.Counts.{countsRefusal, addCounts}
 use Rattle.build.specs.declared.counts.CountsAdded.{CountsAdded}
 use Rattle.build.specs.Densities.{densityRefusal}
@@ -49,6 +50,8 @@ use Rattle.clip.specs.declared.Clipped.{Clipped}
 use Rattle.rows.specs.declared.Rows.{Rows}
 use Rattle.columns.specs.Columns as Columns
 use Rattle.columns.specs.Columns.{byColumn, byRow, named, rowsToLay, rowsToColumns, columnsToRows}
+use Rattle.claims.specs.Demand3.{calls}
+use Rattle.claims.specs.Former.{mergeBlankFirst, acceptBlankFirst}
 
 pub every : List Bool → Bool
 every [] = true
@@ -453,11 +456,9 @@ note7 =
     ∷ mergedTo 11 (countMerger (z20 ∷ []) 0 3·5 1 0 1 2 4 4)
     ∷ mergedTo 11 (countMerger (z00 ∷ []) 0 3·5 1 0 1 2 4 4)
     ∷ mergedTo 11 (countMerger [] 0 3·5 1 0 1 2 4 4)
-    -- "though blank quads of Note 4 merge first", from M on; a source among the four is enough
-    ∷ mergedTo 0 (countMerger (z10 ∷ []) 0 0·0 1 0 0 0 0 0)
-    ∷ mergedTo 0 (countMerger (z10 ∷ []) 1 3·5 1 0 0 0 0 0)
-    ∷ keptWith 0·0 (countMerger (z10 ∷ []) 2 3·5 1 0 0 0 0 0)
+    -- a source among the four, and below M
     ∷ keptWith 1·0 (countMerger (z10 ∷ []) 0 3·5 1 0 0 0 0 1)
+    ∷ keptWith 0·0 (countMerger (z10 ∷ []) 2 3·5 1 0 0 0 0 0)
     -- "A merger call now takes the parent's hash too, 7 if out of range"
     ∷ mergedTo 11 (countMerger [] 0 3·5 1 47 1 2 4 4)
     ∷ refusesQuad 7 0 (countMerger [] 0 3·5 1 48 1 2 4 4)
@@ -484,9 +485,9 @@ note7 =
     -- "entries may lie inside one another"
     ∷ isMap (definedMap (acceptCounts 2 (16 ∷ 28 ∷ []) 0 3·5) 2 (batch 2 (from 16 0) (times 16 1)))
     (1 ∷ 0 ∷ 4 ∷ 1 ∷ 1 ∷ 4 ∷ 1 ∷ 2 ∷ 4 ∷ 2 ∷ 12 ∷ 1 ∷ 2 ∷ 13 ∷ 1 ∷ 2 ∷ 14 ∷ 1 ∷ 2 ∷ 15 ∷ 1 ∷ [])
-    -- with every parent listed blank sky alone merges: (1,0) blank, (1,1) not
-    ∷ isMap (definedMap (acceptCounts 2 (4 ∷ 12 ∷ 16 ∷ 20 ∷ 28 ∷ []) 0 3·5) 2 (batch 2 (from 8 0) (times 4 0 ++ times 4 1)))
-    (1 ∷ 0 ∷ 0 ∷ 2 ∷ 4 ∷ 1 ∷ 2 ∷ 5 ∷ 1 ∷ 2 ∷ 6 ∷ 1 ∷ 2 ∷ 7 ∷ 1 ∷ [])
+    -- with every parent listed nothing merges
+    ∷ isMap (definedMap (acceptCounts 2 (4 ∷ 12 ∷ 16 ∷ 20 ∷ 28 ∷ []) 0 3·5) 2 (batch 2 (from 8 0) (times 8 1)))
+    (2 ∷ 0 ∷ 1 ∷ 2 ∷ 1 ∷ 1 ∷ 2 ∷ 2 ∷ 1 ∷ 2 ∷ 3 ∷ 1 ∷ 2 ∷ 4 ∷ 1 ∷ 2 ∷ 5 ∷ 1 ∷ 2 ∷ 6 ∷ 1 ∷ 2 ∷ 7 ∷ 1 ∷ [])
     -- pooling: of (0,0) 10 and (1,1) 3 at T = 3.5 under (0,0) protected: 3, 6, 2, 2, in either order
     ∷ isMap (definedPool (acceptCounts 2 (16 ∷ []) 0 3·5) 1 (entry 0 0 10 ∷ []) (entry 1 1 3 ∷ [])) (1 ∷ 0 ∷ 3 ∷ 1 ∷ 1 ∷ 6 ∷ 1 ∷ 2 ∷ 2 ∷ 1 ∷ 3 ∷ 2 ∷ [])
     ∷ isMap (definedPool (acceptCounts 2 (16 ∷ []) 0 3·5) 1 (entry 1 1 3 ∷ []) (entry 0 0 10 ∷ [])) (1 ∷ 0 ∷ 3 ∷ 1 ∷ 1 ∷ 6 ∷ 1 ∷ 2 ∷ 2 ∷ 1 ∷ 3 ∷ 2 ∷ [])
@@ -684,7 +685,91 @@ note10 =
     ∷ isMap (definedPool (acceptCounts 29 [] 0 2·0) 1 (entry 0 1 10 ∷ []) (entry 1 5 3 ∷ [])) (1 ∷ 4 ∷ 2 ∷ 1 ∷ 5 ∷ 6 ∷ 1 ∷ 6 ∷ 3 ∷ 1 ∷ 7 ∷ 2 ∷ [])
     ∷ []
 
+-- ---- what a row of note 11 says
+-- the answers of add calls, one after the other: 0, the number of entries and the total, or 1, the number of the refusal and its place
+told : List CountsAdded → List ℕ
+told [] = []
+told (CountsAdded.Added entries total ∷ l) = 0 ∷ entries ∷ total ∷ told l
+told (CountsAdded.Refused r ∷ l) = 1 ∷ numberOf r ∷ placeOf r ∷ told l
+
+-- blank sky in two add calls under this list, D = 1 and T = 0: (1,0) to (1,3), then (1,4), into four places that held 9; what they leave and answer
+blankCalls : List ℕ → Buffers ℕ × List CountsAdded
+blankCalls P =
+    calls 29 P 1 0 0·0 (record { number = 0; zuniqs = times 4 9; values = times 4 9 })
+    (record { hashes = from 4 0; values = times 4 0 } ∷ record { hashes = 4 ∷ []; values = 0 ∷ [] } ∷ [])
+
+-- the zuniq of (1,4)
+z14 : ℕ
+z14 = 648518346341351424
+
+-- blank maps: (0,0), (1,1) and (2,0), and (1,0) to (1,3)
+sky : Given ℕ
+sky = counted 0 (z00 ∷ []) (0 ∷ [])
+
+corner : Given ℕ
+corner = counted 1 (z11 ∷ []) (0 ∷ [])
+
+deep : Given ℕ
+deep = counted 2 (z20 ∷ []) (0 ∷ [])
+
+apart : Given ℕ
+apart = counted 1 (z10 ∷ z11 ∷ z12 ∷ z13 ∷ []) (times 4 0)
+
+-- ---- note 11 of 02: protected beats blank; M = 0 and T = 0 unless given. The merger's parent is (1,0); maps and their zuniqs as for note 7,
+-- asks, commits and add calls in zuniqs of the largest depth 29
+pub note11 : List Bool
+unfolding told blankCalls calls step collapseUpTo collapse run cellRefusal cellsRefusal sumRefusal totalRefusal cellEnd mapEnd spaceRefusal z14 sky corner deep apart z00 z10 z11 z12 z13 z20 asks pools figures counted refusesAdd keptWith mergedTo isList isMap from times 3·5 −1·0 isListed isProtected refusalFrom protectedRefusal quadRefusal nHash zuniq hashAt isZuniqAt cellUpTo decode overlapOf overlapTest isYes overlaps faultAfter faultOf faultAt atOr faultFrom firstFault mapRefusal laid filled readOnto held joined listed whole tops definedMap batch someEntry fits part valueIn overlayIn overlay kept combined extras splitCount liesIn overlap acceptCounts mergedCount countMerger mergeCounts mergeByChi mergeBlankFirst acceptBlankFirst chiOfCounts addCounts addCall countsRefusal settingsRefusal lengthsRefusal Ieee.add Ieee.sub Ieee.mul Ieee.div Ieee.ofInt Ieee.lt Ieee.eq isNan entriesOf sumOf Combining.settingsRefusal pairsRefusal Combining.mapsRefusal Combining.sumsRefusal placesRefusal Combining.poolInputRefusal Combining.poolRefusal Combining.poolOver poolCounts figuresOf askCounts figuresRefusal commitRefusal commitCounts
+note11 =
+    -- "from parent depth M on, four zero counts with a listed parent were merged and now stay", with their chi, 0: at any T, and at M
+    keptWith 0·0 (countMerger (z10 ∷ []) 0 0·0 1 0 0 0 0 0)
+    ∷ keptWith 0·0 (countMerger (z10 ∷ []) 0 3·5 1 0 0 0 0 0)
+    ∷ keptWith 0·0 (countMerger (z10 ∷ []) 0 −1·0 1 0 0 0 0 0)
+    ∷ keptWith 0·0 (countMerger (z10 ∷ []) 0 (inf true) 1 0 0 0 0 0)
+    ∷ keptWith 0·0 (countMerger (z10 ∷ []) 0 (inf false) 1 0 0 0 0 0)
+    ∷ keptWith 0·0 (countMerger (z10 ∷ []) 1 0·0 1 0 0 0 0 0)
+    -- below M they stayed before
+    ∷ keptWith 0·0 (countMerger (z10 ∷ []) 2 0·0 1 0 0 0 0 0)
+    -- blank quads of other parents merge as before: another parent, a child, and a cell of the same hash are listed
+    ∷ mergedTo 0 (countMerger (z11 ∷ []) 0 0·0 1 0 0 0 0 0)
+    ∷ mergedTo 0 (countMerger (z20 ∷ []) 0 0·0 1 0 0 0 0 0)
+    ∷ mergedTo 0 (countMerger (z00 ∷ []) 0 0·0 1 0 0 0 0 0)
+    ∷ mergedTo 0 (countMerger (z20 ∷ z11 ∷ z00 ∷ []) 1 0·0 1 0 0 0 0 0)
+    -- building: sixteen blank cells are (0,0) without a list; under (1,0) its four stay, and so does what is above; under (0,0) four of depth 1
+    ∷ isMap (definedMap (acceptCounts 2 [] 0 0·0) 2 (batch 2 (from 16 0) (times 16 0))) (0 ∷ 0 ∷ 0 ∷ [])
+    ∷ isMap (definedMap (acceptCounts 2 (4 ∷ []) 0 0·0) 2 (batch 2 (from 16 0) (times 16 0)))
+    (2 ∷ 0 ∷ 0 ∷ 2 ∷ 1 ∷ 0 ∷ 2 ∷ 2 ∷ 0 ∷ 2 ∷ 3 ∷ 0 ∷ 1 ∷ 1 ∷ 0 ∷ 1 ∷ 2 ∷ 0 ∷ 1 ∷ 3 ∷ 0 ∷ [])
+    ∷ isMap (definedMap (acceptCounts 2 (16 ∷ []) 0 0·0) 2 (batch 2 (from 16 0) (times 16 0))) (1 ∷ 0 ∷ 0 ∷ 1 ∷ 1 ∷ 0 ∷ 1 ∷ 2 ∷ 0 ∷ 1 ∷ 3 ∷ 0 ∷ [])
+    -- before, either list gave (0,0)
+    ∷ isMap (definedMap (acceptBlankFirst 2 (4 ∷ []) 0 0·0) 2 (batch 2 (from 16 0) (times 16 0))) (0 ∷ 0 ∷ 0 ∷ [])
+    ∷ isMap (definedMap (acceptBlankFirst 2 (16 ∷ []) 0 0·0) 2 (batch 2 (from 16 0) (times 16 0))) (0 ∷ 0 ∷ 0 ∷ [])
+    -- with every parent listed nothing merges, blank or not: (1,0) blank, (1,1) not
+    ∷ isMap (definedMap (acceptCounts 2 (4 ∷ 12 ∷ 16 ∷ 20 ∷ 28 ∷ []) 0 3·5) 2 (batch 2 (from 8 0) (times 4 0 ++ times 4 1)))
+    (2 ∷ 0 ∷ 0 ∷ 2 ∷ 1 ∷ 0 ∷ 2 ∷ 2 ∷ 0 ∷ 2 ∷ 3 ∷ 0 ∷ 2 ∷ 4 ∷ 1 ∷ 2 ∷ 5 ∷ 1 ∷ 2 ∷ 6 ∷ 1 ∷ 2 ∷ 7 ∷ 1 ∷ [])
+    -- "Every list that protects no blank quad's parent gives its former map": (1,0) blank and not listed, (1,1) listed and not blank
+    ∷ isMap (definedMap (acceptCounts 2 (12 ∷ 16 ∷ []) 0 3·5) 2 (batch 2 (from 8 0) (times 4 0 ++ times 4 1))) (1 ∷ 0 ∷ 0 ∷ 2 ∷ 4 ∷ 1 ∷ 2 ∷ 5 ∷ 1 ∷ 2 ∷ 6 ∷ 1 ∷ 2 ∷ 7 ∷ 1 ∷ [])
+    ∷ isMap (definedMap (acceptBlankFirst 2 (12 ∷ 16 ∷ []) 0 3·5) 2 (batch 2 (from 8 0) (times 4 0 ++ times 4 1))) (1 ∷ 0 ∷ 0 ∷ 2 ∷ 4 ∷ 1 ∷ 2 ∷ 5 ∷ 1 ∷ 2 ∷ 6 ∷ 1 ∷ 2 ∷ 7 ∷ 1 ∷ [])
+    -- "ask's entries": (0,0) with (1,1), without and with (0,0) listed; (0,0) with (2,0), the quad above (1,0) too
+    ∷ asks (askCounts [] sky corner 0 0·0) 4 1 0
+    ∷ asks (askCounts (z00 ∷ []) sky corner 0 0·0) 4 4 0
+    ∷ asks (askCounts [] sky deep 0 0·0) 7 1 0
+    ∷ asks (askCounts (z10 ∷ []) sky deep 0 0·0) 7 7 0
+    ∷ asks (askCounts (z00 ∷ []) sky deep 0 0·0) 7 4 0
+    -- "and number 16 follow": the figures without the list are refused with it, and the other way round
+    ∷ refusesAdd 16 0 (commitCounts (z00 ∷ []) sky corner 0 0·0 (figures 4 1 0) (times 4 9) (times 4 9))
+    ∷ pools (commitCounts (z00 ∷ []) sky corner 0 0·0 (figures 4 4 0) (times 4 9) (times 4 9)) 4 0 (z10 ∷ z11 ∷ z12 ∷ z13 ∷ []) (times 4 0)
+    ∷ refusesAdd 16 0 (commitCounts [] sky corner 0 0·0 (figures 4 4 0) (times 4 9) (times 4 9))
+    ∷ pools (commitCounts [] sky corner 0 0·0 (figures 4 1 0) (times 4 9) (times 4 9)) 1 0 (z00 ∷ times 3 0) (times 4 0)
+    -- "calls handed the longer map judge by it": two add calls into four places, the second one refused by 11 where the list keeps four entries
+    ∷ isList (told (blankCalls [] .1)) (0 ∷ 1 ∷ 0 ∷ 0 ∷ 2 ∷ 0 ∷ [])
+    ∷ isList (blankCalls [] .0 .zuniqs) (z00 ∷ z14 ∷ 0 ∷ 0 ∷ [])
+    ∷ isList (told (blankCalls (z00 ∷ []) .1)) (0 ∷ 4 ∷ 0 ∷ 1 ∷ 11 ∷ 0 ∷ [])
+    ∷ isList (blankCalls (z00 ∷ []) .0 .zuniqs) (z10 ∷ z11 ∷ z12 ∷ z13 ∷ [])
+    -- and so a pool that is handed them, with a place for one
+    ∷ pools (poolCounts [] sky (counted 1 [] []) 0 0·0 (9 ∷ []) (9 ∷ [])) 1 0 (z00 ∷ []) (0 ∷ [])
+    ∷ refusesAdd 11 0 (poolCounts [] apart (counted 1 [] []) 0 0·0 (9 ∷ []) (9 ∷ []))
+    ∷ []
+
 -- ---- all of them
-pub starred-cases : every (section1 ++ (section2 ++ (section4 ++ (section5 ++ (note1 ++ (note2 ++ (note3 ++ (note4 ++ (note6 ++ (note7 ++ (note8 ++ (note9 ++ note10)))))))))))) ≡ true
-unfolding every section1 section2 section4 section5 note1 note2 note3 note4 note6 note7 note8 note9 note10
+pub starred-cases : every (section1 ++ (section2 ++ (section4 ++ (section5 ++ (note1 ++ (note2 ++ (note3 ++ (note4 ++ (note6 ++ (note7 ++ (note8 ++ (note9 ++ (note10 ++ note11))))))))))))) ≡ true
+unfolding every section1 section2 section4 section5 note1 note2 note3 note4 note6 note7 note8 note9 note10 note11
 starred-cases = refl

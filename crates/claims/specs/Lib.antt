@@ -1,5 +1,5 @@
-pub mod Cases
 pub mod Demand3
 pub mod Answers
 pub mod Former
+pub mod Cases
 pub mod Unlisted

@@ -11,9 +11,10 @@ use Rattle.zuniq.specs.Cells.{liesIn}
 use Rattle.zuniq.proofs.Ranges.{lies-in-through, lies-in-parent-iff}
 use Rattle.build.specs.Map.{Entry, entry, itselfOr, joined}
 use Rattle.build.specs.Promises.{LiesIn, Covers}
+use Rattle.build.proofs.Entries.{joined-below, joined-ext}
 use Rattle.combine.specs.Overlay.{Seen, left, right, both, seenBy, fits, Split, part, valueIn, seenAt, overlayIn, overlay}
 use Rattle.combine.specs.Promises.{IsSplit}
-use Rattle.combine.proofs.Swap.{joined-below, joined-ext, map-joined}
+use Rattle.combine.proofs.Swap.{map-joined}
 
 module _ {A : Type 0} where
   -- that there is a value, and not which

@@ -7,9 +7,9 @@ use Prim.Native.Nat.{ℕ, zero, suc, _+_, _*_, _-_, _≤_}
 use native.Mathlib.Omega.{arith}
 use Rattle.build.specs.Map.{Entry, itselfOr}
 use Rattle.build.specs.Promises.{Has, Covers}
+use Rattle.build.proofs.Entries.{joined-ext}
 use Rattle.combine.specs.Overlay.{Seen, Split, fits, seenAt, overlayIn, overlay}
 use Rattle.combine.proofs.Fits.{lies-in-of-overlap, Touches, fits-of-touches}
-use Rattle.combine.proofs.Swap.{joined-ext}
 
 -- no entry is deeper than D
 abbrev pub Shallow : {A : Type 0} → ℕ → List (Entry A) → Type 0

@@ -1,22 +1,12 @@
 -- The overlay with left and right swapped is the overlay of the maps swapped. Assumes nothing.
-use mathlib.Core.Path.{_≡_, refl, ap, ap₂, sym, _∙_}
+use mathlib.Core.Path.{_≡_, refl, ap, sym, _∙_}
 use mathlib.Core.Bool.{Bool, true, false, _&&_, cond, and-comm}
 use mathlib.Core.List.{List, [], _++_, map, map-append}
 use mathlib.Core.Option.{Option, none, some}
-use Prim.Native.Nat.{ℕ, zero, suc, _+_, _*_, _<_}
-use native.Mathlib.Omega.{arith}
+use Prim.Native.Nat.{ℕ, zero, suc, _+_, _*_}
 use Rattle.build.specs.Map.{Entry, itselfOr, joined}
+use Rattle.build.proofs.Entries.{joined-ext}
 use Rattle.combine.specs.Overlay.{Seen, seenBy, fits, Split, valueIn, seenAt, overlayIn, overlay, swapped}
-
--- Lists that are the same one by one are the same joined: where those below n are,
-pub joined-below : {B : Type 0} (n : ℕ) (g k : ℕ → List B) → ((i : ℕ) → i < n → g i ≡ k i) → joined n g ≡ joined n k
-unfolding joined
-joined-below zero g k q = refl
-joined-below (suc n) g k q = ap₂ _++_ (joined-below n g k (λ i u. q i (omega arith))) (q n (omega arith))
-
--- and so where all are.
-pub joined-ext : {B : Type 0} (n : ℕ) (g k : ℕ → List B) → ((i : ℕ) → g i ≡ k i) → joined n g ≡ joined n k
-joined-ext n g k q = joined-below n g k (λ i u. q i)
 
 -- What is done to each member is done to each list.
 pub map-joined : {B C : Type 0} (f : B → C) (n : ℕ) (g : ℕ → List B) → map f (joined n g) ≡ joined n (λ i. map f (g i))

@@ -14,14 +14,14 @@ use Rattle.zuniq.proofs.Ranges.{lies-in-iff, lies-in-self, lies-in-same-depth, 
 use Rattle.build.specs.Map.{Entry, entry, itselfOr}
 use Rattle.build.specs.Stack.{child}
 use Rattle.build.specs.Promises.{Any, Has, LiesIn, Covers, Rises}
-use Rattle.build.proofs.Entries.{below-four, entry-is, any-of-has, has-of-any}
+use Rattle.build.proofs.Entries.{below-four, joined-ext, entry-is, any-of-has, has-of-any}
 use Rattle.build.proofs.Rising.{range-of, rises-has, rises-unique}
 use Rattle.combine.specs.Overlay.{Seen, seenBy, fits, Split, part, valueIn, seenAt, overlayIn, overlay, swapped}
 use Rattle.combine.specs.Promises.{Qualifies, OverlayCell}
 use Rattle.combine.specs.Walk.{Inner, children}
 use Rattle.combine.proofs.Fits.{lies-in-of-overlap, apart-of-lies-in, fits-of-covers, fits-of-touches, covers-of-fits, value-of-none, value-of-has, Alike, alike-without, covers-of-seen}
 use Rattle.combine.proofs.Overlay.{overlay-rises, overlay-rises-from, overlay-has-iff}
-use Rattle.combine.proofs.Swap.{joined-ext, overlay-swap}
+use Rattle.combine.proofs.Swap.{overlay-swap}
 
 -- A cell overlaps one that it lies in.
 overlap-of-lies-in : (d h e g : ℕ) → liesIn d h e g ≡ true → overlap d h e g ≡ true

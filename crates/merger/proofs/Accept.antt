@@ -1,6 +1,6 @@
 -- When the two mergers accept four siblings, as later parts use it: `acceptCounts` and `acceptDensities` give a value
--- exactly where the merger answers `Merged`, and that is where the parent depth is at least M and chi is below T with the parent not
--- protected or, of counts, all four are 0. Assumes nothing.
+-- exactly where the merger answers `Merged`, and that is where the parent depth is at least M, the parent is not protected, and chi is
+-- below T or, of counts, all four are 0. Assumes nothing.
 use mathlib.Core.Path.{_≡_, refl, sym, ap, _∙_}
 use mathlib.Core.Bool.{Bool, true, false, _&&_, _||_, not, cond, and-false}
 use mathlib.Core.List.{List}
@@ -58,7 +58,7 @@ module _ (K : ℕ) (P : List ℕ) (M : ℕ) (T : Float) (p h n0 n1 n2 n3 : ℕ) 
   unfolding acceptCounts
   reject-counts-iff-kept = kept-counts-iff (mergeCounts K P M T p h n0 n1 n2 n3)
 
-  accept-counts-is : acceptCounts K P M T p h n0 n1 n2 n3 ≡ cond (leb M p && (blank n0 n1 n2 n3 || (not (isProtected K P p h) && lt (chiOfCounts n0 n1 n2 n3) T))) (some (n0 + n1 + n2 + n3)) none
+  pub accept-counts-is : acceptCounts K P M T p h n0 n1 n2 n3 ≡ cond (leb M p && (not (isProtected K P p h) && (blank n0 n1 n2 n3 || lt (chiOfCounts n0 n1 n2 n3) T))) (some (n0 + n1 + n2 + n3)) none
   unfolding acceptCounts mergeCounts mergeByChi mergedCount
   accept-counts-is = go (leb M p) (blank n0 n1 n2 n3) (isProtected K P p h) (lt (chiOfCounts n0 n1 n2 n3) T) (sum-of-blank n0 n1 n2 n3)
     where
@@ -69,20 +69,20 @@ module _ (K : ℕ) (P : List ℕ) (M : ℕ) (T : Float) (p h n0 n1 n2 n3 : ℕ) 
       sum = n0 + n1 + n2 + n3
 
       go : (deep empty listed below : Bool) → (empty ≡ true → sum ≡ 0)
-          → mergedCount (cond (deep && empty) (CountMerge.Merged 0) (cond listed (CountMerge.Kept chi) (cond (deep && below) (CountMerge.Merged sum) (CountMerge.Kept chi))))
-          ≡ cond (deep && (empty || (not listed && below))) (some sum) none
-      go true true listed below z = ap some (sym (z refl))
-      go true false true below z = refl
+          → mergedCount (cond listed (CountMerge.Kept chi) (cond (deep && empty) (CountMerge.Merged 0) (cond (deep && below) (CountMerge.Merged sum) (CountMerge.Kept chi))))
+          ≡ cond (deep && (not listed && (empty || below))) (some sum) none
+      go true empty true below z = refl
+      go true true false below z = ap some (sym (z refl))
       go true false false true z = refl
       go true false false false z = refl
       go false empty true below z = refl
       go false empty false below z = refl
 
-  -- Counts are accepted exactly if the parent depth is at least M and all four are 0 or the parent is not protected and chi is below T, and
+  -- Counts are accepted exactly if the parent depth is at least M, the parent is not protected, and all four are 0 or chi is below T, and
   -- then as their sum.
   pub accept-counts-iff : (n : ℕ)
-      → (acceptCounts K P M T p h n0 n1 n2 n3 ≡ some n) ↔ ((M ≤ p) × ((blank n0 n1 n2 n3 || (not (isProtected K P p h) && lt (chiOfCounts n0 n1 n2 n3) T)) ≡ true) × (n0 + n1 + n2 + n3 ≡ n))
-  accept-counts-iff n = rw accept-counts-is (given-from-M M p (blank n0 n1 n2 n3 || (not (isProtected K P p h) && lt (chiOfCounts n0 n1 n2 n3) T)) (n0 + n1 + n2 + n3) n)
+      → (acceptCounts K P M T p h n0 n1 n2 n3 ≡ some n) ↔ ((M ≤ p) × ((not (isProtected K P p h) && (blank n0 n1 n2 n3 || lt (chiOfCounts n0 n1 n2 n3) T)) ≡ true) × (n0 + n1 + n2 + n3 ≡ n))
+  accept-counts-iff n = rw accept-counts-is (given-from-M M p (not (isProtected K P p h) && (blank n0 n1 n2 n3 || lt (chiOfCounts n0 n1 n2 n3) T)) (n0 + n1 + n2 + n3) n)
 
   -- The merged count is the sum.
   pub accepted-count-is-sum : (n : ℕ) → acceptCounts K P M T p h n0 n1 n2 n3 ≡ some n → n ≡ n0 + n1 + n2 + n3
@@ -90,7 +90,7 @@ module _ (K : ℕ) (P : List ℕ) (M : ℕ) (T : Float) (p h n0 n1 n2 n3 : ℕ) 
 
   -- Below M counts are kept.
   pub counts-kept-below-M : p < M → acceptCounts K P M T p h n0 n1 n2 n3 ≡ none
-  counts-kept-below-M l = accept-counts-is ∙ none-below-M M p (blank n0 n1 n2 n3 || (not (isProtected K P p h) && lt (chiOfCounts n0 n1 n2 n3) T)) (n0 + n1 + n2 + n3) l
+  counts-kept-below-M l = accept-counts-is ∙ none-below-M M p (not (isProtected K P p h) && (blank n0 n1 n2 n3 || lt (chiOfCounts n0 n1 n2 n3) T)) (n0 + n1 + n2 + n3) l
 
 -- At T = chi counts are kept, as 1,2,4,4 with chi 3 at T = 3, but for four that are 0.
 pub counts-kept-at-chi : (K : ℕ) (P : List ℕ) (M p h n0 n1 n2 n3 : ℕ) → 0 < n0 + n1 + n2 + n3 → acceptCounts K P M (chiOfCounts n0 n1 n2 n3) p h n0 n1 n2 n3 ≡ none

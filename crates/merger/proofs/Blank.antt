@@ -1,5 +1,5 @@
--- Blank sky, note 4 of 02: the count merger merges four counts of 0 from parent depth M on, whatever T is and whether or not the parent is
--- protected, and in all else, where no parent is protected, it is the former merger, `mergeByChi`. Assumes nothing.
+-- Blank sky, note 4 of 02: where the parent is not protected (note 11) the count merger merges four counts of 0 from parent depth M on,
+-- whatever T is, and in all else it is there the former merger, `mergeByChi`. Assumes nothing.
 use mathlib.Core.Path.{_≡_, refl, sym, ap, _∙_, fun-ext}
 use mathlib.Core.Bool.{Bool, true, false, _&&_, cond, and-false}
 use mathlib.Core.List.{List, []}
@@ -55,12 +55,7 @@ former-blank M T p h l t = rw (chi-of-blank, le-leb M p l, t)
 
 module _ (K : ℕ) (P : List ℕ) (M : ℕ) (T : Float) (p h : ℕ) where
   -- ---- four counts of 0
-  -- "Four siblings of count 0 now merge at any T, where the parent depth is at least M."
-  pub blank-merges : M ≤ p → mergeCounts K P M T p h 0 0 0 0 ≡ CountMerge.Merged 0
-  unfolding mergeCounts
-  blank-merges l = rw (le-leb M p l)
-
-  -- Below M they are kept, with chi 0.
+  -- Below M they are kept, with chi 0,
   pub blank-kept-below-M : p < M → mergeCounts K P M T p h 0 0 0 0 ≡ CountMerge.Kept 0·0
   unfolding mergeCounts mergeByChi
   blank-kept-below-M l = rw (lt-leb M p l, chi-of-blank) (go (isProtected K P p h))
@@ -69,35 +64,37 @@ module _ (K : ℕ) (P : List ℕ) (M : ℕ) (T : Float) (p h : ℕ) where
       go true = refl
       go false = refl
 
-  module _ (free : isProtected K P p h ≡ false) (n0 n1 n2 n3 : ℕ) where
-    -- ---- all else is as before
-    -- What chi has merged is merged to the sum, blank or not.
-    pub merged-by-chi : merges M T p (chiOfCounts n0 n1 n2 n3) ≡ true → mergeCounts K P M T p h n0 n1 n2 n3 ≡ CountMerge.Merged (n0 + n1 + n2 + n3)
-    unfolding mergeCounts mergeByChi
-    merged-by-chi t = rw (free, t) (go (leb M p && blank n0 n1 n2 n3) (λ e. sum-of-blank n0 n1 n2 n3 (and-is-true (leb M p) (blank n0 n1 n2 n3) e .1)))
-      where
-        go : (b : Bool) → (b ≡ true → n0 + n1 + n2 + n3 ≡ 0) → cond b (CountMerge.Merged 0) (CountMerge.Merged (n0 + n1 + n2 + n3)) ≡ CountMerge.Merged (n0 + n1 + n2 + n3)
-        go true z = ap (λ (n : ℕ). CountMerge.Merged n) (sym (z refl))
-        go false z = refl
+  -- and so they are under a protected parent of any depth: "protection now comes first".
+  pub protected-blank-kept : isProtected K P p h ≡ true → mergeCounts K P M T p h 0 0 0 0 ≡ CountMerge.Kept 0·0
+  unfolding mergeCounts
+  protected-blank-kept e = rw (e, chi-of-blank)
 
-    -- Below M, and with a count above 0 among the four, the answer is the former one.
-    pub as-before : (p < M) ⊎ (0 < n0 + n1 + n2 + n3) → mergeCounts K P M T p h n0 n1 n2 n3 ≡ mergeByChi M T p h n0 n1 n2 n3
+  module _ (free : isProtected K P p h ≡ false) where
+    -- "Four siblings of count 0 now merge at any T, where the parent depth is at least M."
+    pub blank-merges : M ≤ p → mergeCounts K P M T p h 0 0 0 0 ≡ CountMerge.Merged 0
     unfolding mergeCounts
-    as-before s = rw (no-blank M p n0 n1 n2 n3 (⊎-map (λ l. l) (not-blank n0 n1 n2 n3) s), free)
+    blank-merges l = rw (free, le-leb M p l)
 
-    -- So it is wherever T is above 0.
-    pub as-before-above-0 : lt 0·0 T ≡ true → mergeCounts K P M T p h n0 n1 n2 n3 ≡ mergeByChi M T p h n0 n1 n2 n3
-    as-before-above-0 t = go (le-or-lt M p) (le-or-lt (n0 + n1 + n2 + n3) 0)
-      where
-        go : (M ≤ p) ⊎ (p < M) → (n0 + n1 + n2 + n3 ≤ 0) ⊎ (0 < n0 + n1 + n2 + n3) → mergeCounts K P M T p h n0 n1 n2 n3 ≡ mergeByChi M T p h n0 n1 n2 n3
-        go (inr l) s = as-before (inl l)
-        go (inl d) (inr l) = as-before (inr l)
-        go (inl d) (inl z) =
-            let e0 : n0 ≡ 0 = omega (arith, z) in
-            let e1 : n1 ≡ 0 = omega (arith, z) in
-            let e2 : n2 ≡ 0 = omega (arith, z) in
-            let e3 : n3 ≡ 0 = omega (arith, z) in
-            rw (e0, e1, e2, e3) (blank-merges d ∙ sym (former-blank M T p h d t))
+    module _ (n0 n1 n2 n3 : ℕ) where
+      -- ---- all else is as before
+      -- Below M, and with a count above 0 among the four, the answer is the former one.
+      pub as-before : (p < M) ⊎ (0 < n0 + n1 + n2 + n3) → mergeCounts K P M T p h n0 n1 n2 n3 ≡ mergeByChi M T p h n0 n1 n2 n3
+      unfolding mergeCounts
+      as-before s = rw (no-blank M p n0 n1 n2 n3 (⊎-map (λ l. l) (not-blank n0 n1 n2 n3) s), free)
+
+      -- So it is wherever T is above 0.
+      pub as-before-above-0 : lt 0·0 T ≡ true → mergeCounts K P M T p h n0 n1 n2 n3 ≡ mergeByChi M T p h n0 n1 n2 n3
+      as-before-above-0 t = go (le-or-lt M p) (le-or-lt (n0 + n1 + n2 + n3) 0)
+        where
+          go : (M ≤ p) ⊎ (p < M) → (n0 + n1 + n2 + n3 ≤ 0) ⊎ (0 < n0 + n1 + n2 + n3) → mergeCounts K P M T p h n0 n1 n2 n3 ≡ mergeByChi M T p h n0 n1 n2 n3
+          go (inr l) s = as-before (inl l)
+          go (inl d) (inr l) = as-before (inr l)
+          go (inl d) (inl z) =
+              let e0 : n0 ≡ 0 = omega (arith, z) in
+              let e1 : n1 ≡ 0 = omega (arith, z) in
+              let e2 : n2 ≡ 0 = omega (arith, z) in
+              let e3 : n3 ≡ 0 = omega (arith, z) in
+              rw (e0, e1, e2, e3) (blank-merges d ∙ sym (former-blank M T p h d t))
 
 -- Wherever T is above 0 and nothing is protected, then, every map and every pool is the former one: what they are handed is the same function.
 pub accepts-as-before : (K M : ℕ) (T : Float) → lt 0·0 T ≡ true → acceptCounts K [] M T ≡ acceptByChi M T

@@ -64,15 +64,15 @@ module _ (n0 n1 n2 n3 : ℕ) (h : n0 + n1 + n2 + n3 ≤ 4294967295) where
 -- What is kept carries the chi of the four counts, at either width.
 pub kept-chi : (K : ℕ) (P : List ℕ) (M : ℕ) (T : Float) (p h n0 n1 n2 n3 : ℕ) (chi : Float) → keptChi (mergeCounts K P M T p h n0 n1 n2 n3) ≡ some chi → chiOfCounts n0 n1 n2 n3 ≡ chi
 unfolding mergeCounts mergeByChi keptChi
-kept-chi K P M T p h n0 n1 n2 n3 chi = go (leb M p && blank n0 n1 n2 n3) (isProtected K P p h) (merges M T p (chiOfCounts n0 n1 n2 n3))
+kept-chi K P M T p h n0 n1 n2 n3 chi = go (isProtected K P p h) (leb M p && blank n0 n1 n2 n3) (merges M T p (chiOfCounts n0 n1 n2 n3))
   where
     x : Float
     x = chiOfCounts n0 n1 n2 n3
 
-    go : (empty listed merged : Bool)
-        → keptChi (cond empty (CountMerge.Merged 0) (cond listed (CountMerge.Kept x) (cond merged (CountMerge.Merged (n0 + n1 + n2 + n3)) (CountMerge.Kept x)))) ≡ some chi → x ≡ chi
-    go true listed merged e = absurd (Option·none-ne-some chi e)
-    go false true merged e = Option·some-injective x chi e
+    go : (listed empty merged : Bool)
+        → keptChi (cond listed (CountMerge.Kept x) (cond empty (CountMerge.Merged 0) (cond merged (CountMerge.Merged (n0 + n1 + n2 + n3)) (CountMerge.Kept x)))) ≡ some chi → x ≡ chi
+    go true empty merged e = Option·some-injective x chi e
+    go false true merged e = absurd (Option·none-ne-some chi e)
     go false false true e = absurd (Option·none-ne-some chi e)
     go false false false e = Option·some-injective x chi e
 

@@ -1,4 +1,4 @@
--- Section 2 of the scope, and notes 4 and 7 of 02: what the two mergers make of four children. "M (0 to 29) is the shallowest parent depth
+-- Section 2 of the scope, and notes 4, 7 and 11 of 02: what the two mergers make of four children. "M (0 to 29) is the shallowest parent depth
 -- at which merging is allowed; T is an f64." p and h are the parent's depth and hash, P the protected parents: zuniqs of the largest depth K.
 use mathlib.Core.Bool.{Bool, _&&_, cond}
 use mathlib.Core.List.{List}
@@ -60,11 +60,11 @@ abbrev pub blank : (n0 n1 n2 n3 : ℕ) → Bool
 blank n0 n1 n2 n3 = eqb n0 0 && (eqb n1 0 && (eqb n2 0 && eqb n3 0))
 
 -- they "now merge at any T, where the parent depth is at least M"; all else is merged by chi, as ever. Note 7: "A quad whose parent is
--- listed is kept, though blank quads of Note 4 merge first."
+-- listed is kept"; note 11: "protection now comes first", before blank sky.
 unfoldable pub mergeCounts : (K : ℕ) (P : List ℕ) (M : ℕ) (T : Float) (p h n0 n1 n2 n3 : ℕ) → CountMerge
 mergeCounts K P M T p h n0 n1 n2 n3 =
-    cond (leb M p && blank n0 n1 n2 n3) (CountMerge.Merged 0)
-    (cond (isProtected K P p h) (CountMerge.Kept (chiOfCounts n0 n1 n2 n3))
+    cond (isProtected K P p h) (CountMerge.Kept (chiOfCounts n0 n1 n2 n3))
+    (cond (leb M p && blank n0 n1 n2 n3) (CountMerge.Merged 0)
     (mergeByChi M T p h n0 n1 n2 n3))
 
 -- the count of a merge, if there is one

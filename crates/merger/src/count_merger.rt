@@ -1,9 +1,11 @@
 // The count merger.
 ghost use mathlib.Core.Path.{_≡_};
+ghost use mathlib.Core.Bool.{_&&_, _||_};
 ghost use Prim.Native.Nat.{_+_, _≤_, _<_};
+ghost use lib.Dec.{leb};
 ghost use Rattle.zuniq.specs.Cells.{nHash};
 ghost use Rattle.protection.specs.Protected.{RisingList};
-ghost use Rattle.merger.specs.Merge.{chiOfCounts, blank, mergeCounts, countMerger};
+ghost use Rattle.merger.specs.Merge.{merges, chiOfCounts, blank, mergeCounts, countMerger};
 use super::CountMerge;
 use super::CountMerger;
 use super::check_quad;
@@ -54,10 +56,8 @@ pub fn chi2_count_merger(
     ))
 }
 
-// The count merger for four counts whose sum fits a u32. The list is searched only for what the
-// chi-square would merge. Blank sky is merged at any T and under a protected parent: its chi-square is
-// 0, and a T of 0 or less would keep it. It is looked for last, among what would be kept, so that who
-// merges by the chi-square pays nothing for it.
+// The count merger for four counts whose sum fits a u32. The list is searched last, and only for what
+// would be merged without it: a listed parent keeps its four, blank or not, with their chi-square.
 pub fn merge_counts(
     parent_depth: u8,
     parent_hash: u64,
@@ -73,19 +73,45 @@ pub fn merge_counts(
     ensures { λ r. ⌜ r ≡ mergeCounts 29 (now (protected .entry)) «depth_threshold» «chi2_threshold» «parent_depth» «parent_hash» n0 n1 n2 n3 ⌝ }
 {
     let chi2 = chi2_of_counts(n0, n1, n2, n3);
-    if merges(parent_depth, depth_threshold, chi2_threshold, chi2) {
+    if merges_counts(
+        parent_depth,
+        depth_threshold,
+        chi2_threshold,
+        chi2,
+        n0,
+        n1,
+        n2,
+        n3,
+    ) {
         if !is_protected(protected, parent_depth, parent_hash) {
             return CountMerge::Merged(n0 + n1 + n2 + n3);
         }
     }
-    if parent_depth >= depth_threshold && are_blank(n0, n1, n2, n3) {
-        return CountMerge::Merged(0);
-    }
     CountMerge::Kept(chi2)
 }
 
+// Whether four counts with this chi-square are merged, if nothing protects their parent. Blank sky is
+// merged at any T: its chi-square is 0, and a T of 0 or less would keep it. It is looked for last, among
+// what would be kept, so that who merges by the chi-square pays nothing for it.
+pub(crate) fn merges_counts(
+    parent_depth: u8,
+    depth_threshold: u8,
+    chi2_threshold: f64,
+    chi2: f64,
+    n0: u32,
+    n1: u32,
+    n2: u32,
+    n3: u32,
+) -> bool
+    requires { ⌜ n0 + n1 + n2 + n3 ≤ 4294967295 ⌝ }
+    ensures { λ r. ⌜ r ≡ (merges «depth_threshold» «chi2_threshold» «parent_depth» chi2 || (leb «depth_threshold» «parent_depth» && blank n0 n1 n2 n3)) ⌝ }
+{
+    merges(parent_depth, depth_threshold, chi2_threshold, chi2)
+        || parent_depth >= depth_threshold && are_blank(n0, n1, n2, n3)
+}
+
 // Whether there is no source in any of the four. Most quads are told by the first.
-pub(crate) fn are_blank(n0: u32, n1: u32, n2: u32, n3: u32) -> bool
+fn are_blank(n0: u32, n1: u32, n2: u32, n3: u32) -> bool
     requires { ⌜ n0 + n1 + n2 + n3 ≤ 4294967295 ⌝ }
     ensures { λ r. ⌜ r ≡ blank n0 n1 n2 n3 ⌝ }
 {

@@ -1,11 +1,11 @@
 // The mergers of four siblings into their parent: section 2 of the scope, blank sky (note 4 of 02) and
-// protected parents (note 7).
+// protected parents (notes 7 and 11).
 //
 // Four siblings are merged where the parent's depth is at least M, the depth threshold, their
 // chi-square, with 3 degrees of freedom, is strictly below T, the chi-square threshold, and the parent is
-// not protected. Four counts of 0 are merged at any T, under a protected parent too. The merged count is
-// the sum, the merged density a quarter of the sum. Otherwise the four are kept, and the answer carries
-// the chi-square that was found.
+// not protected. Four counts of 0 are merged at any T, but not under a protected parent either. The merged
+// count is the sum, the merged density a quarter of the sum. Otherwise the four are kept, and the answer
+// carries the chi-square that was found.
 //
 // `chi2_count_merger` and `chi2_density_merger` refuse, in this order: a parent depth over 28 (number
 // 1), M over 29 (2), T a NaN (3), a list of protected parents that is no rising one of zuniqs (15, place:

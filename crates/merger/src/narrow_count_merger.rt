@@ -5,9 +5,8 @@ ghost use Rattle.zuniq.specs.Cells.{nHash};
 ghost use Rattle.protection.specs.Protected.{RisingList};
 ghost use Rattle.merger.specs.Merge.{mergeCounts};
 use super::CountMerge;
-use super::merges;
-use crate::count_merger::are_blank;
 use crate::count_merger::chi2_of_counts;
+use crate::count_merger::merges_counts;
 use protection::narrow_list::is_protected;
 
 // `merge_counts` for a parent of a narrow map.
@@ -26,13 +25,19 @@ pub fn merge_narrow_counts(
     ensures { λ r. ⌜ r ≡ mergeCounts 13 (now (protected .entry)) «depth_threshold» «chi2_threshold» «parent_depth» «parent_hash» n0 n1 n2 n3 ⌝ }
 {
     let chi2 = chi2_of_counts(n0, n1, n2, n3);
-    if merges(parent_depth, depth_threshold, chi2_threshold, chi2) {
+    if merges_counts(
+        parent_depth,
+        depth_threshold,
+        chi2_threshold,
+        chi2,
+        n0,
+        n1,
+        n2,
+        n3,
+    ) {
         if !is_protected(protected, parent_depth, parent_hash) {
             return CountMerge::Merged(n0 + n1 + n2 + n3);
         }
-    }
-    if parent_depth >= depth_threshold && are_blank(n0, n1, n2, n3) {
-        return CountMerge::Merged(0);
     }
     CountMerge::Kept(chi2)
 }
