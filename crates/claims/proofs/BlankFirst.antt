@@ -1,13 +1,12 @@
 -- Note 11 of 02, "protection now comes first": what it changed, and that "every list that protects no blank quad's parent gives its former
 -- map", against the merger before it (specs/Former), for adding, pooling, asking and committing. Assumes nothing.
 use mathlib.Core.Path.{_≡_, refl, ap, sym, _∙_}
-use mathlib.Core.Bool.{Bool, true, false, _&&_, cond}
+use mathlib.Core.Bool.{Bool, true, false}
 use mathlib.Core.List.{List, [], _∷_, _++_, map, reverse, append-nil, append-assoc}
 use mathlib.Core.Logic.{_⊎_, inl, inr, ⊎-map, _↔_}
 use mathlib.Core.Option.{Option, none, some}
 use Prim.Native.Nat.{ℕ, _+_, _≤_, _<_}
 use native.Mathlib.Omega.{arith}
-use lib.Dec.{leb}
 use lib.Ieee.{Float}
 use lib.ListN.{length}
 use borrow.Author.Tests.{le-leb}
@@ -33,7 +32,7 @@ use Rattle.combine.specs.Rules.{combined, definedPool}
 use Rattle.combine.specs.Pool.{Given, entries, resultDepth, poolKept, poolRefusal, poolOver, poolCounts}
 use Rattle.combine.specs.Ask.{askRefusal, figuresOf, askedOr, askCounts, figuresRefusal, commitRefusal, commitCounts}
 use Rattle.combine.specs.declared.counts.Figures.{Figures}
-use Rattle.claims.specs.Demand3.{AddCalls, first, done, joinedList, mapOf}
+use Rattle.claims.specs.Demand3.{AddCalls, first, done, joinedList}
 use Rattle.claims.specs.Former.{withMerger, mergeBlankFirst, acceptBlankFirst, NoBlankProtected, doneBlankFirst, poolOverBy, figuresBy, commitRefusalBy}
 use Rattle.claims.proofs.Demand3.{as-due}
 

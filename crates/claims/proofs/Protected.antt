@@ -16,7 +16,7 @@ use Rattle.zuniq.proofs.Ranges.{lies-in-iff}
 use Rattle.protection.specs.Protected.{isProtected}
 use Rattle.merger.specs.Merge.{acceptCounts, acceptDensities}
 use Rattle.merger.proofs.Protected.{protected-accepts-no-count, protected-accepts-no-density}
-use Rattle.build.specs.Map.{Entry, entry, Merger, listed, whole, definedMap}
+use Rattle.build.specs.Map.{Entry, Merger, whole, definedMap}
 use Rattle.build.specs.Promises.{Has, LiesIn}
 use Rattle.build.specs.Counts.{countCalls}
 use Rattle.build.proofs.Whole.{listed-has, Whole, by-list, by-merging, whole-is, is-whole}

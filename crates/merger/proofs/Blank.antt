@@ -13,7 +13,7 @@ use Rattle.zuniq.proofs.Basics.{and-is-true, is-false, le-or-lt}
 use Rattle.protection.specs.Protected.{isProtected}
 use Rattle.protection.proofs.Listed.{nothing-protected}
 use Rattle.merger.specs.Floats.{0·0}
-use Rattle.merger.specs.Merge.{merges, chiOfCounts, mergeByChi, blank, mergeCounts, mergedCount, acceptCounts, acceptByChi}
+use Rattle.merger.specs.Merge.{chiOfCounts, mergeByChi, blank, mergeCounts, mergedCount, acceptCounts, acceptByChi}
 use Rattle.merger.specs.declared.CountMerge.{CountMerge}
 use Rattle.merger.proofs.Counts.{chi-of-zero}
 
