@@ -2,9 +2,9 @@
 //! closures that the scope and its change requests define. `Z` is u64 or u32, the two zuniq types of
 //! the original.
 //!
-//! Values are merged by the original's mergers behind tests of ours, that of blank quads, for counts, and
-//! that of protected parents (`count_merger`, `density_merger`). The calls named `by_chi` have its mergers
-//! alone, as the original is.
+//! Values are merged by the original's mergers behind tests of ours, that of protected parents and then,
+//! for counts, that of blank quads (`count_merger`, `density_merger`). The calls named `by_chi` have its
+//! mergers alone, as the original is.
 //!
 //! A call panics where the original does: under `checked` where its arithmetic overflows.
 
@@ -83,9 +83,9 @@ pub fn searched<Z: ZUniqHashT>(protected: &[Z]) -> impl Fn(u8, Z) -> bool + '_ {
     move |depth, hash| protected.binary_search(&Z::to_zuniq(depth, hash)).is_ok()
 }
 
-/// "Four siblings of count 0 now merge at any T, where the parent depth is at least M." (Note 4.) "A
-/// quad whose parent is listed is kept, though blank quads of Note 4 merge first." (Note 7.) All others
-/// are handed to the original's merger. No call is made with a T that is NaN.
+/// "A quad whose parent is listed is kept" (note 7), blank or not: "protection now comes first" (note 11).
+/// "Four siblings of count 0 now merge at any T, where the parent depth is at least M." (Note 4.) All
+/// others are handed to the original's merger. No call is made with a T that is NaN.
 fn count_merger<Z: ZUniqHashT>(
     m: u8,
     t: f64,
@@ -93,8 +93,8 @@ fn count_merger<Z: ZUniqHashT>(
 ) -> impl Fn(u8, Z, [u32; 4]) -> Result<u32, [u32; 4]> {
     let by_chi = new_chi2_count_merger_with_depth_threshold(t, m);
     move |parent, hash, counts| match counts {
-        [0, 0, 0, 0] if parent >= m => Ok(0),
         _ if protects(parent, hash) => Err(counts),
+        [0, 0, 0, 0] if parent >= m => Ok(0),
         _ => by_chi(parent, hash, counts),
     }
 }

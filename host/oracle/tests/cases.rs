@@ -353,22 +353,26 @@ fn a_parent_is_listed_by_its_depth_and_hash() {
 }
 
 #[test]
-fn a_quad_is_kept_under_a_listed_parent_unless_it_is_blank() {
+fn a_quad_is_kept_under_a_listed_parent_blank_or_not() {
     let list = list(&[(0, 5), (28, 9)]);
-    let t = f64::INFINITY;
-    for parent in [(0, 5), (28, 9)] {
-        let counts = |m, counts| run::merge_counts(parent, m, t, listed(&list), counts);
-        assert_eq!(counts(0, [1; 4]), None);
-        assert_eq!(counts(0, [0, 0, 0, 1]), None);
-        assert_eq!(counts(0, [0; 4]), Some(0));
-        assert_eq!(counts(29, [0; 4]), None);
-        let densities = |m| run::merge_densities(parent, 0, t, listed(&list), [m; 4]);
-        assert_eq!((densities(8.0), densities(0.0)), (None, None));
+    for t in BELOW.into_iter().chain([5e-324, f64::INFINITY]) {
+        for parent in [(0, 5), (28, 9)] {
+            let counts = |m, counts| run::merge_counts(parent, m, t, listed(&list), counts);
+            assert_eq!(counts(0, [1; 4]), None);
+            assert_eq!(counts(0, [0, 0, 0, 1]), None);
+            assert_eq!(counts(0, [0; 4]), None);
+            assert_eq!(counts(29, [0; 4]), None);
+            let densities = |m| run::merge_densities(parent, 0, t, listed(&list), [m; 4]);
+            assert_eq!((densities(8.0), densities(0.0)), (None, None));
+        }
+        for parent in [(0, 4), (1, 5), (28, 8)] {
+            let counts = |counts| run::merge_counts(parent, 0, t, listed(&list), counts);
+            assert_eq!(counts([1; 4]), (t > 0.0).then_some(4));
+            assert_eq!(counts([0; 4]), Some(0));
+        }
     }
     for parent in [(0, 4), (1, 5), (28, 8)] {
-        let counts = run::merge_counts(parent, 0, t, listed(&list), [1; 4]);
-        assert_eq!(counts, Some(4));
-        let densities = run::merge_densities(parent, 0, t, listed(&list), [8.0; 4]);
+        let densities = run::merge_densities(parent, 0, f64::INFINITY, listed(&list), [8.0; 4]);
         assert_eq!(densities, Some(8.0));
     }
 }
@@ -384,29 +388,36 @@ fn cells_are_built_into_no_listed_parent() {
     let built = run::build_counts(2, 0, t, listed(&list), ones);
     assert_eq!(built, zuniqs(&counts));
     let blanks = (0..16).map(|hash| (hash, 0));
-    let built = run::build_counts(2, 0, t, listed(&list), blanks);
-    assert_eq!(built, zuniqs(&[(0, 0, 0)]));
+    for t in BELOW {
+        let built = run::build_counts(2, 0, t, listed(&list), blanks.clone());
+        assert_eq!(built, zuniqs(&kept.map(|(depth, hash)| (depth, hash, 0))));
+    }
     let eights = (0..16).map(|hash| (hash, 8.0));
     let densities = kept.map(|(depth, hash)| (depth, hash, 8.0));
     let built = run::build_densities(2, 0, t, listed(&list), eights);
     assert_eq!(built, zuniqs(&densities));
     let narrow = [run::trait_to_zuniq(0, 0u32)];
-    let ones = (0..4u32).map(|hash| (hash, 1));
-    assert_eq!(run::build_counts(1, 0, t, listed(&narrow), ones).len(), 4);
+    for count in [0, 1] {
+        let alike = (0..4u32).map(|hash| (hash, count));
+        assert_eq!(run::build_counts(1, 0, t, listed(&narrow), alike).len(), 4);
+    }
 }
 
 #[test]
 fn maps_are_combined_into_no_listed_parent() {
     let (base, child) = (list(&[(0, 0)]), list(&[(1, 0)]));
     let t = f64::INFINITY;
-    let pool = |list: &[u64]| {
-        let left = run::mom(0, zuniqs(&[(0, 0, 10)]));
-        let right = run::mom(1, zuniqs(&[(1, 1, 3)]));
+    let pool = |list: &[u64], [left, right]: [u32; 2]| {
+        let left = run::mom(0, zuniqs(&[(0, 0, left)]));
+        let right = run::mom(1, zuniqs(&[(1, 1, right)]));
         run::pool(left, right, 0, t, listed(list)).1
     };
     let apart = [(1, 0, 3), (1, 1, 6), (1, 2, 2), (1, 3, 2)];
-    assert_eq!(pool(&base), zuniqs(&apart));
-    assert_eq!(pool(&child), zuniqs(&[(0, 0, 13)]));
+    assert_eq!(pool(&base, [10, 3]), zuniqs(&apart));
+    assert_eq!(pool(&child, [10, 3]), zuniqs(&[(0, 0, 13)]));
+    let blanks = apart.map(|(depth, hash, _)| (depth, hash, 0));
+    assert_eq!(pool(&base, [0; 2]), zuniqs(&blanks));
+    assert_eq!(pool(&child, [0; 2]), zuniqs(&[(0, 0, 0)]));
     let four = [0, 1, 2, 3].map(|hash| (1, hash, 4.0));
     let product = |list: &[u64]| {
         let left = run::mom(0, zuniqs(&[(0, 0, 2.0)]));
