@@ -32,18 +32,45 @@ const BLANK: [(u8, f64, Option<u64>, usize); 3] = [
     (0, 0.0, Some(5), 6),
 ];
 
+/// The same under protected parents: one with blank cells before and behind it; one whose quad is held; the
+/// base cell; one beside the source; and one above M beside one below it.
+const PROTECTED_BLANK: [(u8, f64, Option<u64>, usize, &[(u8, u64)]); 5] = [
+    (0, -1.0, None, 5, &[(1, 1)]),
+    (0, 0.0, None, 10, &[(1, 0)]),
+    (0, f64::INFINITY, None, 15, &[(0, 0)]),
+    (0, 0.0, Some(5), 6, &[(1, 3), (2, 0)]),
+    (1, f64::NEG_INFINITY, None, 11, &[(1, 2), (0, 0)]),
+];
+
 pub fn print_blank<Z: Width + Number>() {
     for (m, t, source, cut) in BLANK {
-        let count = |hash| u32::from(Some(hash) == source);
-        let list = List::<u32, Z> {
-            depth: 2,
-            m,
-            t: Float(t),
-            protected: vec![],
-            cells: (0..16).map(|hash| (Z::of(hash), count(hash))).collect(),
-            cut,
-        };
+        blank::<Z>(m, t, source, cut, &[]).line(with_total).print();
+    }
+}
+
+pub fn print_protected_blank<Z: Width + Number>() {
+    for (m, t, source, cut, protected) in PROTECTED_BLANK {
+        let list = blank::<Z>(m, t, source, cut, protected);
         list.line(with_total).print();
+    }
+}
+
+fn blank<Z: Width>(
+    m: u8,
+    t: f64,
+    source: Option<u64>,
+    cut: usize,
+    protected: &[(u8, u64)],
+) -> List<u32, Z> {
+    let count = |hash| u32::from(Some(hash) == source);
+    let protected = protected.iter().map(|&(depth, hash)| Cell { depth, hash });
+    List {
+        depth: 2,
+        m,
+        t: Float(t),
+        protected: protected::list_of(&protected.collect::<Vec<_>>()),
+        cells: (0..16).map(|hash| (Z::of(hash), count(hash))).collect(),
+        cut,
     }
 }
 

@@ -1,11 +1,12 @@
-//! Section 5: pools and products of small maps; pools that are asked for before they are done, and pools that
-//! share a remainder.
+//! Section 5: pools and products of small maps; pools that are asked for before they are done, pools that share
+//! a remainder, and pools of blank sky.
 
 use differential::{
     cells::{Cell, DEPTH_MAX},
     floats::Float,
     lists::Value,
     pairs::{Combine, Given, Input, Pooled},
+    protected,
     random::Random,
 };
 use mom::Figures;
@@ -28,11 +29,39 @@ pub fn print_blank() {
         (0, (3, 37), -1.0),
         (2, (3, 37), f64::NEG_INFINITY),
     ] {
-        let input = Input {
-            depth_threshold: m,
-            ..case(cell, [0; 2], t)
-        };
+        print_pair(&blank(m, cell, t, &[]), with_total);
+    }
+}
+
+/// The same under protected parents, asked for and committed too: the base cell; the smaller cell's parent, from
+/// M on and below it; a cell between them, beside one that lies in it; and the smaller cell, which has no children.
+pub fn print_protected_blank() {
+    let lists: [(u8, (u8, u64), f64, &[(u8, u64)]); 6] = [
+        (0, (1, 1), f64::NEG_INFINITY, &[(0, 0)]),
+        (0, (1, 1), f64::INFINITY, &[(0, 0)]),
+        (0, (2, 6), -1.0, &[(1, 1)]),
+        (2, (2, 6), 0.0, &[(1, 1)]),
+        (0, (3, 37), 0.0, &[(2, 8), (1, 2)]),
+        (0, (1, 1), 0.0, &[(1, 1)]),
+    ];
+    for (m, cell, t, list) in lists {
+        let list: Vec<Cell> = list
+            .iter()
+            .map(|&(depth, hash)| Cell { depth, hash })
+            .collect();
+        let input = blank(m, cell, t, &list);
         print_pair(&input, with_total);
+        let pooled = input.asked().expect("two valid maps");
+        ask(&input, &pooled).print();
+        commit(&input, &pooled).print();
+    }
+}
+
+fn blank(m: u8, cell: (u8, u64), t: f64, list: &[Cell]) -> Input<u32> {
+    Input {
+        depth_threshold: m,
+        protected: protected::list_of(list),
+        ..case(cell, [0; 2], t)
     }
 }
 
@@ -161,13 +190,21 @@ const MOST_SHARED: usize = 7;
 pub fn print_asked(random: &mut Random) {
     for number in 0..ASKED {
         let (input, pooled) = draw_asked(random, number, usize::MAX);
-        with_figures(arguments("ask", &input), pooled.figures()).print();
+        ask(&input, &pooled).print();
     }
     for number in 0..COMMITTED {
         let (input, pooled) = draw_asked(random, number, MOST_CELLS);
-        let line = with_figures(arguments("commit", &input), pooled.figures());
-        into_output(line, &input, &pooled.entries, with_total).print();
+        commit(&input, &pooled).print();
     }
+}
+
+fn ask(input: &Input<u32>, pooled: &Pooled) -> Line {
+    with_figures(arguments("ask", input), pooled.figures())
+}
+
+fn commit(input: &Input<u32>, pooled: &Pooled) -> Line {
+    let line = with_figures(arguments("commit", input), pooled.figures());
+    into_output(line, input, &pooled.entries, with_total)
 }
 
 fn with_figures(line: Line, figures: Figures) -> Line {

@@ -4,7 +4,7 @@
 //! its 64-bit pattern. `crates/replay/src/call.rt` sets out the numbers of each call.
 //!
 //! The choice of arguments is fixed: small ones, and some that a fixed seed draws. Every answer is the
-//! original's, with its mergers behind the tests of blank quads and of protected parents, on arguments that
+//! original's, with its mergers behind the tests of protected parents and of blank quads, on arguments that
 //! no call of ours refuses; nothing here calls our library.
 
 mod building;
@@ -31,6 +31,7 @@ fn main() {
     print_blank();
     combining::print_asked(&mut random(9));
     combining::print_shared(&mut random(10));
+    print_protected_blank();
 }
 
 /// Narrow maps, and moving between the widths.
@@ -48,6 +49,14 @@ fn print_blank() {
     building::print_blank::<u64>();
     building::print_blank::<u32>();
     combining::print_blank();
+}
+
+/// Note 11 of 02: blank sky under protected parents, and beside them under the same lists.
+fn print_protected_blank() {
+    mergers::print_protected_blank();
+    building::print_protected_blank::<u64>();
+    building::print_protected_blank::<u32>();
+    combining::print_protected_blank();
 }
 
 /// The numbers that the arguments of a section are drawn from; 8 is for narrow maps, 9 for asking,

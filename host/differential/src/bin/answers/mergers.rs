@@ -3,7 +3,9 @@
 //! or infinite, are left out.
 
 use differential::{
+    cells::Cell,
     floats::Float,
+    protected,
     quads::{Call, Quad},
     random::Random,
 };
@@ -45,15 +47,7 @@ pub fn print(random: &mut Random) {
     let drawn: Vec<Call<u32>> = (0..DRAWN).map(|_| Call::<u32>::any(random)).collect();
     for mut call in cases.into_iter().chain(drawn) {
         call.protected.truncate(MOST_PROTECTED);
-        let Quad {
-            values,
-            parent_depth: p,
-        } = call.quad;
-        let (m, t) = (call.depth_threshold, call.chi2_threshold.0);
-        let (parent, protects) = ((p, call.parent_hash), run::listed(&call.protected));
-        let merged = run::merge_counts(parent, m, t, protects, values);
-        let chi = || run::chi_of_counts(p, values);
-        print_call("chi2_count_merger", &call, merged, chi);
+        print_counts(&call);
     }
     for _ in 0..DRAWN {
         let mut call = Call::<Float>::sound(random);
@@ -65,6 +59,46 @@ pub fn print(random: &mut Random) {
         let chi = || run::chi_of_densities(p, densities);
         print_call("chi2_density_merger", &call, merged, chi);
     }
+}
+
+/// Under a listed parent and under its neighbour: from M on, at any T, and below M.
+pub fn print_protected_blank() {
+    let listed = [(0, 5), (28, 9)].map(|(depth, hash)| Cell { depth, hash });
+    for parent in [
+        listed[0],
+        listed[1],
+        Cell { depth: 0, hash: 4 },
+        Cell { depth: 28, hash: 8 },
+    ] {
+        let p = parent.depth;
+        for (m, t) in [
+            (0, f64::NEG_INFINITY),
+            (p, 0.0),
+            (0, f64::INFINITY),
+            (p + 1, 3.5),
+        ] {
+            print_counts(&Call {
+                quad: Quad {
+                    values: [0; 4],
+                    parent_depth: p,
+                },
+                depth_threshold: m,
+                chi2_threshold: Float(t),
+                protected: protected::list_of(&listed),
+                parent_hash: parent.hash,
+            });
+        }
+    }
+}
+
+fn print_counts(call: &Call<u32>) {
+    let (values, p) = (call.quad.values, call.quad.parent_depth);
+    let (m, t) = (call.depth_threshold, call.chi2_threshold.0);
+    let (parent, protects) = ((p, call.parent_hash), run::listed(&call.protected));
+    let merged = run::merge_counts(parent, m, t, protects, values);
+    print_call("chi2_count_merger", call, merged, || {
+        run::chi_of_counts(p, values)
+    });
 }
 
 fn print_call<V: Number>(
