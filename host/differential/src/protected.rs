@@ -89,6 +89,17 @@ fn at_another_depth<Z: Width>(random: &mut Random, parent: Cell) -> Cell {
     Cell { depth, ..parent }
 }
 
+/// The list without the cells in which there is nothing but blank sky. Protection beats blank by note 11; what
+/// came out before is what comes out under this list.
+pub fn without_blanks<Z: Width>(list: &[Z], cells: &[(Cell, u32)]) -> Vec<Z> {
+    let is_blank = |listed: Cell| {
+        let mut inside = cells.iter().filter(|(cell, _)| listed.overlaps(*cell));
+        inside.all(|&(_, count)| count == 0)
+    };
+    let is_left = |&zuniq: &Z| Cell::of_zuniq(zuniq).is_some_and(|cell| !is_blank(cell));
+    list.iter().copied().filter(is_left).collect()
+}
+
 /// Makes a change by which a list is none, or may be: by a value that is no zuniq, or by one that is not
 /// above the one before.
 pub fn change<Z: Width>(random: &mut Random, list: &mut Vec<Z>) {

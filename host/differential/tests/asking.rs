@@ -1,10 +1,12 @@
 //! The asks and commits drawn: none of what they are to show is rare, and a pool is an ask followed by its
 //! commit.
 
+mod kept;
+
 use differential::{
     cells::Cell,
     compare::Kind,
-    kinds::{Commit, CommitInput},
+    kinds::{Ask, Commit, CommitInput},
     pairs::{Input, Pooled},
     random::Random,
 };
@@ -29,6 +31,17 @@ struct Asked {
 }
 
 impl Asked {
+    fn new(input: Input<u32>) -> Self {
+        let asked = input.asked();
+        let kept = asked.as_ref().map_or(vec![], |_| input.kept());
+        let cells = kept.into_iter().map(|(cell, _)| cell).collect();
+        Asked {
+            input,
+            asked,
+            cells,
+        }
+    }
+
     fn is_refused(&self, number: u8) -> bool {
         self.asked
             .as_ref()
@@ -57,6 +70,20 @@ impl Asked {
         entries.any(|entry| {
             let last = self.cells.iter().rfind(|cell| cell.overlaps(entry));
             last.is_some_and(|last| last.depth >= entry.depth + levels)
+        })
+    }
+
+    /// Whether the map that is asked for is as `is` says, with its list.
+    fn is_listed(&self, is: impl Fn(kept::Map) -> bool) -> bool {
+        let listed = self.input.protected.iter();
+        let listed: Vec<Cell> = listed.filter_map(|&zuniq| Cell::of_zuniq(zuniq)).collect();
+        let entries = self.asked.iter().flat_map(|pooled| &pooled.entries);
+        let entries = entries.filter_map(|&(z, count)| Some((Cell::of_zuniq(z)?, count)));
+        is(kept::Map {
+            entries: &entries.collect::<Vec<_>>(),
+            listed: &listed,
+            depth_threshold: self.input.depth_threshold,
+            chi2_threshold: self.input.chi2_threshold.0,
         })
     }
 
@@ -115,22 +142,31 @@ const ASKS: &[Class<Asked>] = &[
     ("11 of an output", |asked| asked.is_output_refused(11)),
 ];
 
+/// Blank sky under a list (note 11), which the small pairs reach too.
+const LISTED_BLANKS: &[Class<Asked>] = &[
+    ("kept", |asked| asked.is_listed(|map| map.keeps_blanks())),
+    ("kept, with what is above", |asked| {
+        asked.is_listed(|map| map.is_apart_above_blanks())
+    }),
+    ("entries that are more than before", |asked| {
+        let former = asked.input.former_figures();
+        let is_more = |asked: Figures| former.is_some_and(|former| former.entries < asked.entries);
+        asked.is_answered(|figures, _| is_more(figures))
+    }),
+];
+
 #[test]
 fn no_kind_of_ask_is_rare() {
     let mut random = Random::new(45);
-    let draw = |_| {
-        let input = Input::<u32>::random(&mut random);
-        let asked = input.asked();
-        let kept = asked.as_ref().map_or(vec![], |_| input.kept());
-        let cells = kept.into_iter().map(|(cell, _)| cell).collect();
-        Asked {
-            input,
-            asked,
-            cells,
-        }
-    };
+    let draw = |_| Asked::new(Input::random(&mut random));
     let drawn: Vec<Asked> = (0..DRAWN).map(draw).collect();
     assert_none_is_rare(&drawn, ASKS);
+    assert_none_is_rare(&drawn, LISTED_BLANKS);
+    let small = Ask::small().filter(|pair| !pair.protected.is_empty());
+    let small: Vec<Asked> = small.map(Asked::new).collect();
+    for (name, is_in) in LISTED_BLANKS {
+        assert!(small.iter().any(is_in), "{name}");
+    }
 }
 
 /// A commit with the figures that are asked for, and how it is refused.
@@ -141,6 +177,16 @@ struct Drawn {
 }
 
 impl Drawn {
+    fn new(input: CommitInput) -> Self {
+        let asked = input.pair.asked().ok().map(|pooled| pooled.figures());
+        let refusal = input.judged().given.0.err();
+        Drawn {
+            input,
+            asked,
+            refusal,
+        }
+    }
+
     fn is_refused(&self, number: u8) -> bool {
         self.refusal
             .is_some_and(|refusal| refusal.number() == number)
@@ -150,6 +196,11 @@ impl Drawn {
     fn differ(&self, is: impl Fn(Figures, Figures) -> bool) -> bool {
         let asked = self.asked;
         self.is_refused(16) && asked.is_some_and(|asked| is(self.input.figures(), asked))
+    }
+
+    /// Whether it is refused by 16 with the figures that an ask told before note 11.
+    fn has_former_figures(&self) -> bool {
+        self.differ(|given, _| self.input.pair.former_figures() == Some(given))
     }
 
     fn places(&self) -> usize {
@@ -250,6 +301,7 @@ const COMMITS: &[Class<Drawn>] = &[
                 && (given.cells, given.entries) == (asked.entries, asked.cells)
         })
     }),
+    ("the former figures", |drawn| drawn.has_former_figures()),
     ("no figures", |drawn| drawn.differ(|given, _| given == NONE)),
     ("16 where 11 applies", |drawn| {
         drawn.differ(|_, asked| drawn.places() < asked.cells)
@@ -276,18 +328,11 @@ const COMMITS: &[Class<Drawn>] = &[
 #[test]
 fn no_kind_of_commit_is_rare() {
     let mut random = Random::new(46);
-    let draw = |_| {
-        let input = CommitInput::random(&mut random);
-        let asked = input.pair.asked().ok().map(|pooled| pooled.figures());
-        let refusal = input.judged().given.0.err();
-        Drawn {
-            input,
-            asked,
-            refusal,
-        }
-    };
+    let draw = |_| Drawn::new(CommitInput::random(&mut random));
     let drawn: Vec<Drawn> = (0..DRAWN).map(draw).collect();
     assert_none_is_rare(&drawn, COMMITS);
+    let mut small = Commit::small().map(Drawn::new);
+    assert!(small.any(|drawn| drawn.has_former_figures()));
 }
 
 /// "Where its output buffers are of equal length, equals an ask followed by its commit, in its refusals too."

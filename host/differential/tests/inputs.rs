@@ -1,5 +1,7 @@
 //! The inputs, against faults that would have the comparison say less than it seems to.
 
+mod kept;
+
 use std::{
     collections::{BTreeMap, HashSet},
     ops::Range,
@@ -9,7 +11,7 @@ use differential::{
     cells::{cells_to, n_hash, Cell, DEPTH_MAX},
     compare::Kind,
     floats::Float,
-    kinds::{ClipInput, CountMerger, CoverInput, LayOutInput, MoveInput, Piece},
+    kinds::{ClipInput, CountChi, CountMerger, CoverInput, LayOutInput, MoveInput, Piece},
     lists::{Add, Build, Input, Value},
     maps::Map,
     protected::faulty_place,
@@ -320,14 +322,52 @@ fn classes_of_lists<V: Value>() -> Vec<Class<Call<V>>> {
 
 #[test]
 fn no_list_of_protected_parents_is_rare() {
-    let mut classes = classes_of_lists::<u32>();
-    classes.extend([(
-        "blanks under a listed parent",
-        (|call| is_listed(call, |_, _| is_blank(call, |above, _| above >= 0)))
-            as fn(&Call<u32>) -> bool,
-    )]);
-    assert_none_is_rare(drawn_counts(), &classes);
+    assert_none_is_rare(drawn_counts(), &classes_of_lists());
     assert_none_is_rare(drawn_densities(), &classes_of_lists());
+}
+
+/// Under a listed parent, and under one that is not in the list that there is.
+#[test]
+fn no_blank_quad_under_a_list_is_rare() {
+    let classes: &[Class<Call<u32>>] = &[
+        ("listed, T up to 0", |call| {
+            is_listed(call, |_, _| {
+                is_blank(call, |above, t| above >= 0 && t <= 0.0)
+            })
+        }),
+        ("listed, T above 0", |call| {
+            is_listed(call, |_, _| {
+                is_blank(call, |above, t| above >= 0 && t > 0.0)
+            })
+        }),
+        ("listed, M at the parent's depth", |call| {
+            is_listed(call, |_, _| is_blank(call, |above, _| above == 0))
+        }),
+        ("listed, below M", |call| {
+            is_listed(call, |_, _| is_blank(call, |above, _| above < 0))
+        }),
+        ("beside a list, T up to 0", |call| {
+            let is_beside = !call.protected.is_empty() && !is_listed(call, |_, _| true);
+            is_beside && is_blank(call, |above, t| above >= 0 && t <= 0.0)
+        }),
+        ("a single source, listed", |call| {
+            call.quad.values.iter().sum::<u32>() == 1 && is_listed(call, |_, _| true)
+        }),
+    ];
+    assert_none_is_rare(drawn_counts(), classes);
+    for (name, belongs) in classes {
+        assert!(CountMerger::small().any(|call| belongs(&call)), "{name}");
+    }
+}
+
+/// Of four blanks that are kept it is 0, and +0.
+#[test]
+fn no_chi_of_a_blank_quad_is_rare() {
+    let mut random = Random::new(24);
+    let drawn = (0..DRAWN).map(|_| Quad::<u32>::random(&mut random));
+    assert_none_is_rare(drawn, &[("blank", |quad| quad.values == [0; 4])]);
+    let blank = CountChi::small().next().expect("the first quad");
+    assert_eq!(CountChi::original(&blank), [Ok(Some(Float(0.0))); 4]);
 }
 
 fn is_refused_call<V: Value>(call: &Call<V>, number: u8) -> bool {
@@ -679,17 +719,7 @@ fn no_refusal_and_no_kind_of_building_is_rare_among_counts() {
 #[test]
 fn no_protection_is_rare_in_building() {
     fn at<Z: Width>() {
-        let mut classes = Step::<u32>::classes_of_lists();
-        classes.extend([(
-            "blanks merged into a listed one",
-            (|step| {
-                let mut entries = step.entries.iter();
-                entries.any(|&(cell, count)| {
-                    count == 0 && cell.depth < step.depth && step.protected.contains(&cell)
-                })
-            }) as fn(&Step<u32>) -> bool,
-        )]);
-        assert_none_is_rare(drawn_steps::<u32, Z>(22), &classes);
+        assert_none_is_rare(drawn_steps::<u32, Z>(22), &Step::classes_of_lists());
     }
     at::<u64>();
     at::<u32>();
@@ -697,6 +727,25 @@ fn no_protection_is_rare_in_building() {
 }
 
 impl Step<u32> {
+    fn of<'a>(&'a self, entries: &'a [(Cell, u32)]) -> kept::Map<'a> {
+        kept::Map {
+            entries,
+            listed: &self.protected,
+            depth_threshold: self.depth_threshold,
+            chi2_threshold: self.chi2_threshold,
+        }
+    }
+
+    /// Whether the list keeps blank sky that the call completes.
+    fn keeps_blanks(&self) -> bool {
+        self.of(&self.entries).keeps_blanks() && !self.holds_blanks()
+    }
+
+    /// Whether it kept some before the call.
+    fn holds_blanks(&self) -> bool {
+        self.of(&self.held).keeps_blanks()
+    }
+
     /// Whether there is an entry of 0 that was merged where T is not above 0, and that is as `is` asks.
     fn merges_blanks(&self, is: impl Fn(Cell) -> bool) -> bool {
         self.chi2_threshold <= 0.0 && {
@@ -761,15 +810,38 @@ const MORE_BLANK_STEPS: &[Class<Step<u32>>] = &[
     ("a single source kept", |step| step.keeps_four(1)),
 ];
 
+/// Blank sky under a list (note 11), which the small lists reach too.
+const LISTED_BLANK_STEPS: &[Class<Step<u32>>] = &[
+    ("kept, T up to 0", |step| {
+        step.chi2_threshold <= 0.0 && step.keeps_blanks()
+    }),
+    ("kept, T above 0", |step| {
+        step.chi2_threshold > 0.0 && step.keeps_blanks()
+    }),
+    ("kept, with what is above", |step| {
+        step.of(&step.entries).is_apart_above_blanks()
+    }),
+    ("kept among those held", |step| {
+        step.refusal.is_none() && step.entries != step.held && step.holds_blanks()
+    }),
+    ("merged beside kept ones", |step| {
+        step.merged(|count| count == 0) && step.of(&step.entries).keeps_blanks()
+    }),
+    ("merged at T up to 0 where none is kept", |step| {
+        let is_kept = step.of(&step.entries).keeps_blanks();
+        !step.protected.is_empty() && !is_kept && step.merges_blanks(|_| true)
+    }),
+];
+
 #[test]
-fn no_blank_sky_at_a_threshold_of_0_or_less_is_rare() {
+fn no_blank_sky_is_rare_in_building() {
     fn at<Z: Width>() {
-        for classes in [BLANK_STEPS, MORE_BLANK_STEPS] {
+        for classes in [BLANK_STEPS, MORE_BLANK_STEPS, LISTED_BLANK_STEPS] {
             assert_none_is_rare(drawn_steps::<u32, Z>(16), classes);
         }
         let small = Add::<u32, Z>::small().flat_map(|input| steps_of(&input));
         let small: Vec<Step<u32>> = small.collect();
-        for (name, belongs) in BLANK_STEPS {
+        for (name, belongs) in BLANK_STEPS.iter().chain(LISTED_BLANK_STEPS) {
             assert!(small.iter().any(belongs), "{name}");
         }
     }

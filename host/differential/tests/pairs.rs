@@ -1,5 +1,7 @@
 //! The pairs of maps drawn: none of what they are to show is rare, and pooling has no order.
 
+mod kept;
+
 use std::{collections::BTreeSet, fmt::Display};
 
 use differential::{
@@ -26,20 +28,7 @@ struct Drawn<V: Combine> {
 
 fn drawn<V: Combine>(seed: u64) -> Vec<Drawn<V>> {
     let mut random = Random::new(seed);
-    let draw = |_| {
-        let input = Input::<V>::random(&mut random);
-        let judged = input.judged();
-        let (seen, split) = match judged.0 {
-            Ok(_) => input.overlaid(),
-            Err(_) => (vec![], vec![]),
-        };
-        Drawn {
-            input,
-            judged,
-            seen,
-            split,
-        }
-    };
+    let draw = |_| Drawn::new(Input::<V>::random(&mut random));
     (0..DRAWN).map(draw).collect()
 }
 
@@ -56,6 +45,20 @@ fn assert_none_is_rare<V: Combine>(
 }
 
 impl<V: Combine> Drawn<V> {
+    fn new(input: Input<V>) -> Self {
+        let judged = input.judged();
+        let (seen, split) = match judged.0 {
+            Ok(_) => input.overlaid(),
+            Err(_) => (vec![], vec![]),
+        };
+        Drawn {
+            input,
+            judged,
+            seen,
+            split,
+        }
+    }
+
     fn is_refused(&self, number: u8) -> bool {
         self.judged
             .0
@@ -284,6 +287,16 @@ impl Drawn<u32> {
         })
     }
 
+    /// Whether the map is as `is` asks, with its list.
+    fn is_listed(&self, is: impl Fn(kept::Map) -> bool) -> bool {
+        is(kept::Map {
+            entries: &self.entries(),
+            listed: &self.listed(),
+            depth_threshold: self.input.depth_threshold,
+            chi2_threshold: self.t(),
+        })
+    }
+
     /// Whether T is not above 0 and four siblings of 0 stay.
     fn keeps_blanks(&self) -> bool {
         self.t() <= 0.0
@@ -345,24 +358,44 @@ const BLANK_POOLS: &[Class<u32>] = &[
     ("kept below M", |pair| pair.keeps_blanks()),
 ];
 
+/// Blank sky under a list (note 11), which the small pairs reach too.
+const LISTED_BLANK_POOLS: &[Class<u32>] = &[
+    ("kept, T up to 0", |pair| {
+        pair.t() <= 0.0 && pair.is_listed(|map| map.keeps_blanks())
+    }),
+    ("kept, T above 0", |pair| {
+        pair.t() > 0.0 && pair.is_listed(|map| map.keeps_blanks())
+    }),
+    ("kept, with what is above", |pair| {
+        pair.is_listed(|map| map.is_apart_above_blanks())
+    }),
+    ("kept of a larger cell", |pair| {
+        pair.splits().iter().any(|&n| n > 0) && pair.is_listed(|map| map.keeps_blanks())
+    }),
+    ("merged beside kept ones", |pair| {
+        pair.merges_blanks(|_, _| true) && pair.is_listed(|map| map.keeps_blanks())
+    }),
+    ("merged where none is kept", |pair| {
+        let is_kept = pair.is_listed(|map| map.keeps_blanks());
+        !pair.input.protected.is_empty() && !is_kept && pair.merges_blanks(|_, _| true)
+    }),
+];
+
 #[test]
-fn no_blank_sky_at_a_threshold_of_0_or_less_is_rare_among_pools() {
-    assert_none_is_rare(&drawn(25), BLANK_POOLS);
+fn no_blank_sky_is_rare_among_pools() {
+    let drawn = drawn(25);
+    assert_none_is_rare(&drawn, BLANK_POOLS);
+    assert_none_is_rare(&drawn, LISTED_BLANK_POOLS);
+    let small = Pool::small().filter(|pair| !pair.protected.is_empty());
+    let small: Vec<_> = small.map(Drawn::new).collect();
+    for (name, is_in) in LISTED_BLANK_POOLS {
+        assert!(small.iter().any(is_in), "{name}");
+    }
 }
 
 #[test]
 fn no_protection_is_rare_in_combining() {
-    let mut classes = Drawn::<u32>::classes_of_lists();
-    classes.extend([(
-        "blanks merged into a listed one",
-        (|pair| {
-            let listed = pair.listed();
-            let is_split = |cell: Cell| pair.seen.iter().all(|seen| seen.cell != cell);
-            let mut entries = pair.entries().into_iter();
-            entries.any(|(cell, count)| count == 0 && listed.contains(&cell) && is_split(cell))
-        }) as fn(&Drawn<u32>) -> bool,
-    )]);
-    assert_none_is_rare(&drawn(26), &classes);
+    assert_none_is_rare(&drawn(26), &Drawn::<u32>::classes_of_lists());
     assert_none_is_rare(&drawn(27), &Drawn::<Float>::classes_of_lists());
 }
 

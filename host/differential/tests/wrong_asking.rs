@@ -2,6 +2,9 @@
 //! `merge` and the table often enough for a short run to find it. The right ones stand here a third time, an
 //! ask counting its entries as it goes, with no map at hand, so that each wrong one differs in one thing.
 
+mod decisions;
+
+use decisions::{decide, wrong_decisions, Decision, Four};
 use differential::{
     cells::Cell,
     kinds::CommitInput,
@@ -28,6 +31,7 @@ struct Counting {
     at_end: fn(usize) -> usize,
     /// How many merges may follow a cell, by the cells behind.
     most_merges: fn(usize) -> usize,
+    decides: Decision,
 }
 
 /// The first hash of depth 29 in a cell, and the first behind it.
@@ -57,6 +61,7 @@ impl Counting {
             counted: |settled, _| settled,
             at_end: |live| live,
             most_merges: |_| 29,
+            decides: decide,
         }
     }
 
@@ -72,7 +77,7 @@ impl Counting {
             live.drain(..settled);
             live.push((cell, count));
             for _ in 0..(self.most_merges)(kept.len() - 1 - place) {
-                let Some(parent) = parent(input, &live) else {
+                let Some(parent) = self.parent(input, &live) else {
                     break;
                 };
                 live.truncate(live.len() - 4);
@@ -81,21 +86,25 @@ impl Counting {
         }
         entries + (self.at_end)(live.len())
     }
-}
 
-/// What the last four become, if they are merged.
-fn parent(input: &Input<u32>, live: &[(Cell, u32)]) -> Option<(Cell, u32)> {
-    let four: [(Cell, u32); 4] = *live.last_chunk()?;
-    let (cells, counts) = (four.map(|entry| entry.0), four.map(|entry| entry.1));
-    let depth = cells[0].depth.checked_sub(1)?;
-    let parent = cells[0].ancestor(depth);
-    if cells != parent.children() || depth < input.depth_threshold {
-        return None;
+    /// What the last four become, if they are merged.
+    fn parent(&self, input: &Input<u32>, live: &[(Cell, u32)]) -> Option<(Cell, u32)> {
+        let four: [(Cell, u32); 4] = *live.last_chunk()?;
+        let (cells, counts) = (four.map(|entry| entry.0), four.map(|entry| entry.1));
+        let depth = cells[0].depth.checked_sub(1)?;
+        let parent = cells[0].ancestor(depth);
+        if cells != parent.children() || depth < input.depth_threshold {
+            return None;
+        }
+        let merges = (self.decides)(Four {
+            is_blank: u32::are_blank(counts),
+            is_listed: input.protected.contains(&parent.zuniq()),
+            has_list: !input.protected.is_empty(),
+            by_chi: u32::chi2(counts, depth) < input.chi2_threshold.0,
+            t: input.chi2_threshold.0,
+        });
+        merges.then(|| (parent, u32::merged(counts)))
     }
-    let listed = input.protected.contains(&parent.zuniq());
-    let by_chi = u32::chi2(counts, depth) < input.chi2_threshold.0;
-    let merges = u32::are_blank(counts) || !listed && by_chi;
-    merges.then(|| (parent, u32::merged(counts)))
 }
 
 /// A pair with what an ask of it is answered, and the overlay cells where it is not refused.
@@ -234,6 +243,19 @@ fn no_chain_that_is_settled_wrongly_is_missed() {
     found!("nothing merged", most_merges: |_| 0);
     found!("one merge a cell", most_merges: |_| 1);
     found!("the last quad untried", most_merges: |behind| if behind == 0 { 0 } else { 29 });
+}
+
+#[test]
+fn no_entry_of_blank_sky_is_counted_by_another_rule() {
+    let drawn = drawn(51);
+    for (wrong, decides) in wrong_decisions() {
+        let counting = Counting {
+            decides,
+            ..Counting::right()
+        };
+        let answer = |asked: &Asked| asked.right.map(|_| asked.figures(&counting));
+        assert_often(wrong, differing(&drawn, answer));
+    }
 }
 
 #[test]

@@ -2,8 +2,10 @@
 //! often enough for a short run to find it. What is right stands here a third time, so that each
 //! wrong one differs from it in one thing.
 
+mod decisions;
 mod readings;
 
+use decisions::{decide, wrong_decisions, Decision};
 use differential::{
     cells::Cell,
     compare::Kind,
@@ -40,8 +42,7 @@ struct Program<V: Value, Z> {
     merges_blank: fn(&Arguments<V, Z>, Four<V>) -> bool,
     /// Whether four are kept by the list of protected parents.
     is_listed: Search<Z>,
-    /// Whether four are merged: that are blank, that are listed, and by their chi.
-    decides: fn(bool, bool, bool) -> bool,
+    decides: Decision,
     merged: fn([V; 4]) -> V,
     /// How many places behind the last entry are cleared: of zuniqs, and of values.
     cleared: fn(usize) -> [usize; 2],
@@ -63,7 +64,7 @@ impl<V: Value, Z: Width> Program<V, Z> {
                 four.parent_depth >= call.depth_threshold && V::are_blank(four.values)
             },
             is_listed,
-            decides: |blank, listed, by_chi| blank || !listed && by_chi,
+            decides: decide,
             merged,
             cleared: |places| [places; 2],
             judge: |due, _| due.map(Err),
@@ -122,9 +123,13 @@ impl<V: Value, Z: Width> Program<V, Z> {
             values,
         };
         let parent = a.0.ancestor(depth);
-        let by_chi = (self.merges)(above, chi, call.chi2_threshold);
-        let listed = (self.is_listed)(call.protected, parent);
-        let merges = (self.decides)((self.merges_blank)(call, four), listed, by_chi);
+        let merges = (self.decides)(decisions::Four {
+            is_blank: (self.merges_blank)(call, four),
+            is_listed: (self.is_listed)(call.protected, parent),
+            has_list: !call.protected.is_empty(),
+            by_chi: (self.merges)(above, chi, call.chi2_threshold),
+            t: call.chi2_threshold,
+        });
         merges.then(|| (parent, (self.merged)(values)))
     }
 
@@ -357,15 +362,40 @@ fn no_wrong_protection_is_missed() {
     fn at<Z: Width>() {
         let drawn = Drawn::<u32, Z>::new(35);
         drawn.assert_protection_is_found(sum);
-        let protected_first = Program {
-            decides: |blank, listed, by_chi| !listed && (blank || by_chi),
-            ..Program::right(sum)
-        };
-        drawn.assert_found("protection before blanks", protected_first);
+        for (wrong, decides) in wrong_decisions() {
+            let program = Program {
+                decides,
+                ..Program::right(sum)
+            };
+            drawn.assert_found(wrong, program);
+        }
+        drawn.assert_refusal_is_found("11 by the former map", sum, refused_by_former_map);
     }
     at::<u64>();
     at::<u32>();
     Drawn::<Float, u64>::new(36).assert_protection_is_found(quarter);
+}
+
+/// What is refused where 11 is judged as if the held map had its blank quads merged.
+fn refused_by_former_map<Z: Width>(call: &Arguments<u32, Z>) -> Option<Refusal> {
+    let refusal = call.refusal()?;
+    let unlisted = Arguments {
+        protected: &[],
+        zuniqs: &mut [],
+        values: &mut [],
+        ..*call
+    };
+    let held = call.zuniqs.iter().zip(call.values.iter()).take(call.held);
+    let mut map = Vec::new();
+    for (&zuniq, &count) in held.filter(|_| refusal.number() == 11) {
+        map.push((Cell::of_zuniq(zuniq).expect("a valid map"), count));
+        while let Some((parent, 0)) = Program::right(sum).parent(&map, &unlisted) {
+            map.truncate(map.len() - 4);
+            map.push((parent, 0));
+        }
+    }
+    let fits = map.len() + call.hashes.len() <= call.zuniqs.len();
+    (refusal.number() != 11 || !fits).then_some(refusal)
 }
 
 /// What a narrow call answers that takes depths up to 29: where nothing else is refused, that the map

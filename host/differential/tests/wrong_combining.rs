@@ -2,10 +2,12 @@
 //! the scope's table often enough for a short run to find it. What is right stands here a third time,
 //! so that each wrong one differs from it in one thing.
 
+mod decisions;
 mod readings;
 
 use std::ops::Range;
 
+use decisions::{decide, wrong_decisions, Decision, Four};
 use differential::{
     cells::{Cell, DEPTH_MAX},
     compare::Kind,
@@ -35,8 +37,7 @@ struct Program<V: Combine> {
     merges_blank: fn(&Input<V>, u8, [V; 4]) -> bool,
     /// Whether four are kept by the list of protected parents.
     is_listed: Search<u64>,
-    /// Whether four are merged: that are blank, that are listed, and by their chi.
-    decides: fn(bool, bool, bool) -> bool,
+    decides: Decision,
     merged: fn([V; 4]) -> V,
     /// How many places behind the last entry are cleared: of zuniqs, and of values.
     cleared: fn(usize) -> [usize; 2],
@@ -68,7 +69,7 @@ impl<V: Combine> Program<V> {
                 parent >= input.depth_threshold && V::are_blank(values)
             },
             is_listed,
-            decides: |blank, listed, by_chi| blank || !listed && by_chi,
+            decides: decide,
             merged: V::merged,
             cleared: |places| [places; 2],
             refuse: |refusal, _, _| refusal,
@@ -110,10 +111,13 @@ impl<V: Combine> Program<V> {
         let above = depth as i16 - input.depth_threshold as i16;
         let chi = V::chi2(values, depth);
         let parent = a.0.ancestor(depth);
-        let by_chi = (self.merges)(above, chi, input.chi2_threshold.0);
-        let blank = (self.merges_blank)(input, depth, values);
-        let listed = (self.is_listed)(&input.protected, parent);
-        let merges = (self.decides)(blank, listed, by_chi);
+        let merges = (self.decides)(Four {
+            is_blank: (self.merges_blank)(input, depth, values),
+            is_listed: (self.is_listed)(&input.protected, parent),
+            has_list: !input.protected.is_empty(),
+            by_chi: (self.merges)(above, chi, input.chi2_threshold.0),
+            t: input.chi2_threshold.0,
+        });
         merges.then(|| (parent, (self.merged)(values)))
     }
 
@@ -491,11 +495,13 @@ fn no_wrong_rule_of_blank_sky_is_missed() {
 fn no_wrong_protection_is_missed() {
     let drawn = Drawn::<u32>::new(35);
     drawn.assert_protection_is_found();
-    let protected_first = Program {
-        decides: |blank, listed, by_chi| !listed && (blank || by_chi),
-        ..Program::right()
-    };
-    drawn.assert_found("protection before blanks", protected_first);
+    for (wrong, decides) in wrong_decisions() {
+        let program = Program {
+            decides,
+            ..Program::right()
+        };
+        drawn.assert_found(wrong, program);
+    }
     Drawn::<Float>::new(36).assert_protection_is_found();
 }
 

@@ -1,8 +1,10 @@
 //! Wrong mergers: the random inputs must tell each from the scope's often enough for a short run to
 //! find it, by whether the four are merged alone, or by what is refused.
 
+mod decisions;
 mod readings;
 
+use decisions::{decide, wrong_decisions, Four};
 use differential::{
     floats::Float,
     lists::Value,
@@ -23,12 +25,12 @@ fn merges<V>(chi: f64, call: &Call<V>) -> bool {
     above(call) >= 0 && chi < call.chi2_threshold.0
 }
 
-/// Whether four counts are merged whatever their chi is.
+/// Whether four counts are merged whatever their chi is, where no list keeps them.
 fn merges_blank(call: &Call<u32>) -> bool {
     above(call) >= 0 && call.quad.values == [0; 4]
 }
 
-/// Whether four are kept whatever their chi is, but for blanks.
+/// Whether four are kept whatever they are.
 fn is_protected<V: Value>(call: &Call<V>) -> bool {
     is_listed(&call.protected, call.parent())
 }
@@ -80,9 +82,10 @@ fn no_wrong_rule_is_missed() {
 
 /// The rule is asked, beside chi below T, the parent's depth less M, T, and the counts.
 fn assert_rule_of_blanks_is_found(wrong: &str, rule: fn(i16, f64, [u32; 4]) -> bool) {
-    let differing = drawn_counts().filter(|call| {
+    let unprotected = drawn_counts().filter(|call| !is_protected(call));
+    let differing = unprotected.filter(|call| {
         let wrong = rule(above(call), call.chi2_threshold.0, call.quad.values);
-        let by_chi = !is_protected(call) && merges(call.quad.chi(), call);
+        let by_chi = merges(call.quad.chi(), call);
         (wrong || by_chi) != (merges_blank(call) || by_chi)
     });
     assert_found(wrong, differing.count());
@@ -205,14 +208,19 @@ fn no_wrong_chi_of_densities_is_missed() {
     });
 }
 
-/// Whether four are merged, where a parent is listed or not.
-fn merges_if<V: Value>(listed: bool, call: &Call<V>) -> bool {
+/// What decides of a call, where a parent is listed or not.
+fn four_if<V: Value>(is_listed: bool, call: &Call<V>) -> Four {
     let Quad {
         values,
         parent_depth,
     } = call.quad;
-    let blank = above(call) >= 0 && V::are_blank(values);
-    blank || !listed && merges(V::chi2(values, parent_depth), call)
+    Four {
+        is_blank: above(call) >= 0 && V::are_blank(values),
+        is_listed,
+        has_list: !call.protected.is_empty(),
+        by_chi: merges(V::chi2(values, parent_depth), call),
+        t: call.chi2_threshold.0,
+    }
 }
 
 #[test]
@@ -221,8 +229,8 @@ fn no_wrong_search_of_a_list_is_missed() {
         let drawn: Vec<Call<V>> = drawn.collect();
         for (wrong, search) in wrong_searches() {
             let differing = drawn.iter().filter(|call| {
-                let listed = search(&call.protected, call.parent());
-                merges_if(listed, call) != merges_if(is_protected(call), call)
+                let [wrong, right] = [search(&call.protected, call.parent()), is_protected(call)];
+                decide(four_if(wrong, call)) != decide(four_if(right, call))
             });
             assert_found(wrong, differing.count());
         }
@@ -231,10 +239,16 @@ fn no_wrong_search_of_a_list_is_missed() {
     among(drawn_densities());
 }
 
+/// Below M a blank quad is kept whichever rule is tried first.
 #[test]
-fn no_protection_of_blank_quads_is_missed() {
-    let differing = drawn_counts().filter(|call| merges_blank(call) && is_protected(call));
-    assert_found("protection before blanks", differing.count());
+fn no_wrong_protection_of_blank_quads_is_missed() {
+    for (wrong, decision) in wrong_decisions() {
+        let differing = drawn_counts().filter(|call| {
+            let four = four_if(is_protected(call), call);
+            decision(four) != decide(four)
+        });
+        assert_found(wrong, differing.count());
+    }
     let below_m = drawn_counts().filter(|call| {
         let blank = call.quad.values == [0; 4];
         blank && above(call) < 0 && is_protected(call)

@@ -6,7 +6,8 @@ use mom::{Figures, Refusal};
 use crate::{
     compare::Kind,
     lists::Answer,
-    pairs::{in_a_base_cell, nested, Call, Input},
+    pairs::{in_a_base_cell, nested, under_lists, Call, Input},
+    protected,
     random::Random,
 };
 
@@ -21,12 +22,13 @@ impl Kind for Ask {
     type Input = Input<u32>;
     type Answer = [Asked; 2];
 
-    /// Some of the pool's small pairs: of those in a base cell all at which something may merge, and an
-    /// entry in another one where all does.
+    /// Some of the pool's small pairs: of those in a base cell all at which something may merge, the blank ones
+    /// under lists too, and an entry in another one where all does but for a list.
     fn small() -> impl Iterator<Item = Input<u32>> {
         let few = in_a_base_cell(&[1, 6], [(0, 3.5), (0, f64::INFINITY)]);
-        let blank = in_a_base_cell(&[0], [(0, 0.0), (1, 0.0)]);
-        few.chain(blank).chain(nested(&[f64::INFINITY]))
+        let blank = under_lists(in_a_base_cell(&[0], [(0, 0.0), (1, 0.0)]));
+        let nested = protected::with_lists(nested(&[f64::INFINITY]), Input::under_nested);
+        few.chain(blank).chain(nested)
     }
 
     fn random(random: &mut Random) -> Option<Input<u32>> {

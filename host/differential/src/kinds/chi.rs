@@ -1,12 +1,11 @@
 //! The chi-squares of counts and of densities, by bits.
 //!
 //! Ours answers a chi with the four that it keeps: here by M, which is above the parent's depth, by T,
-//! which no chi is below, and by a list that their parent is in. No T and no list keeps four counts of 0
-//! (notes 4 and 7): their chi is compared by M alone, at the largest T and at the least, and with a list.
-//! The original keeps its chi to itself but merges exactly
-//! where chi is below T. So our chi is tried on it: kept at T = chi and merged at the next f64 above,
-//! it can have no other. Where that isn't so, and for a part of the inputs anyway, the original's chi
-//! is found by bisection on T, with no look at ours.
+//! which no chi is below, and by a list that their parent is in, where T would have them merged and where
+//! it would not. No T keeps four counts of 0 (note 4), as a list does (note 11): with that T they are kept
+//! by M. The original keeps its chi to itself but merges exactly where chi is below T. So our chi is tried
+//! on it: kept at T = chi and merged at the next f64 above, it can have no other. Where that isn't so, and
+//! for a part of the inputs anyway, the original's chi is found by bisection on T, with no look at ours.
 //!
 //! What no T tells apart can't be seen in the original: NaN and infinity, both of which are kept at
 //! every T, and the two zeros. NaN and infinity are both compared as `None`. A zero of the original is
@@ -30,9 +29,9 @@ pub struct Input<V> {
     bisected: bool,
 }
 
-/// The chi of the four kept by M, that of the four kept by T, where a T keeps them, and that of the four
-/// kept by a list, where a list does.
-type Answer = [Result<Option<Float>, Refusal>; 3];
+/// The chi of the four kept by M, by T, where a T keeps them, by a list at the largest T, and by one at the
+/// least.
+type Answer = [Result<Option<Float>, Refusal>; 4];
 
 /// What the four are kept by.
 #[derive(Clone, Copy)]
@@ -56,6 +55,10 @@ const BY_LIST: By = By {
     m: 0,
     t: f64::INFINITY,
     is_listed: true,
+};
+const BY_BOTH: By = By {
+    is_listed: true,
+    ..BY_T
 };
 
 fn comparable(chi: f64) -> Option<Float> {
@@ -127,12 +130,11 @@ impl Kind for CountChi {
     }
 
     fn ours(input: &Input<u32>) -> Answer {
-        let m = match u32::are_blank(input.quad.values) {
-            true => BY_M.m,
-            false => 0,
+        let by_t = match u32::are_blank(input.quad.values) {
+            true => By { m: BY_M.m, ..BY_T },
+            false => BY_T,
         };
-        let ways = [BY_M, By { m, ..BY_T }, By { m, ..BY_LIST }];
-        ways.map(|by| count_chi(input, by).map(comparable))
+        [BY_M, by_t, BY_LIST, BY_BOTH].map(|by| count_chi(input, by).map(comparable))
     }
 
     fn original(input: &Input<u32>) -> Answer {
@@ -141,7 +143,7 @@ impl Kind for CountChi {
             Ok(ours) if !input.bisected => run::chi_of_counts_near(ours, p, counts),
             _ => run::chi_of_counts(p, counts),
         };
-        [Ok(chi.map(Float)); 3]
+        [Ok(chi.map(Float)); 4]
     }
 }
 
@@ -160,7 +162,7 @@ impl Kind for DensityChi {
     }
 
     fn ours(input: &Input<Float>) -> Answer {
-        [BY_M, BY_T, BY_LIST].map(|by| density_chi(input, by).map(comparable))
+        [BY_M, BY_T, BY_LIST, BY_BOTH].map(|by| density_chi(input, by).map(comparable))
     }
 
     fn original(input: &Input<Float>) -> Answer {
@@ -169,6 +171,6 @@ impl Kind for DensityChi {
             Ok(ours) if !input.bisected => run::chi_of_densities_near(ours, p, densities),
             _ => run::chi_of_densities(p, densities),
         };
-        [Ok(chi.map(Float)); 3]
+        [Ok(chi.map(Float)); 4]
     }
 }

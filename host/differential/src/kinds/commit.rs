@@ -9,7 +9,7 @@ use super::ask::ask;
 use crate::{
     compare::Kind,
     lists::{Answer, Step},
-    pairs::{in_a_base_cell, Call, Input as Pair, Pooled},
+    pairs::{in_a_base_cell, under_lists, Call, Input as Pair, Pooled},
     random::{any_of, Random},
 };
 
@@ -37,12 +37,13 @@ impl Input {
         }
     }
 
-    /// With the pair's figures, and with any one of them one more or one less.
+    /// With the pair's figures, with any one of them one more or one less, and with the former ones.
     fn about(pair: Pair<u32>) -> impl Iterator<Item = Self> {
         let right = right(&pair);
         let changes = (0..3).flat_map(|which| [(which, 1), (which, u64::MAX)]);
         let wrong = changes.map(move |(which, by)| changed(right, which, by));
-        let figures = wrong.chain([right]);
+        let former = pair.former_figures().map(numbers);
+        let figures = wrong.chain(former).chain([right]);
         figures.map(move |figures| Input {
             pair: pair.clone(),
             figures,
@@ -68,7 +69,10 @@ impl Input {
 
     pub fn random(random: &mut Random) -> Self {
         let pair = Pair::random(random);
-        let figures = figures(random, right(&pair));
+        let figures = match pair.former_figures() {
+            Some(former) if random.coin() => numbers(former),
+            _ => figures(random, right(&pair)),
+        };
         Input { pair, figures }
     }
 }
@@ -76,9 +80,16 @@ impl Input {
 /// What an ask answers of the pair; where it is refused, what it answers of two empty maps.
 fn right(pair: &Pair<u32>) -> [u64; 3] {
     let figures = pair.asked().map(|pooled| pooled.figures());
-    figures.map_or([0; 3], |right| {
-        [right.cells as u64, right.entries as u64, right.total.into()]
-    })
+    figures.map_or([0; 3], numbers)
+}
+
+fn numbers(figures: Figures) -> [u64; 3] {
+    let Figures {
+        cells,
+        entries,
+        total,
+    } = figures;
+    [cells as u64, entries as u64, total.into()]
 }
 
 /// With one of the figures so many more. The total is a u32.
@@ -121,11 +132,11 @@ impl Kind for Commit {
     type Input = Input;
     type Answer = [Committed; 2];
 
-    /// All pairs of maps in the first base cell down to depth 1 with counts of 1, and with nothing but 0: with
-    /// as many places as there are cells, and with one less.
+    /// All pairs of maps in the first base cell down to depth 1 with counts of 1, and with nothing but 0, these
+    /// under a list too: with as many places as there are cells, and with one less.
     fn small() -> impl Iterator<Item = Input> {
         let few = in_a_base_cell(&[1], [(0, 3.5), (1, 3.5)]);
-        let blank = in_a_base_cell(&[0], [(0, 0.0)]);
+        let blank = under_lists(in_a_base_cell(&[0], [(0, 0.0)]));
         few.chain(blank).flat_map(|pair| {
             let cells = pair.places[0] - 1;
             let too_few = cells.checked_sub(1);

@@ -1,5 +1,5 @@
 //! The count merger: whether the four are kept, and the merged count, beside the original's merger
-//! behind the tests of blank quads and of protected parents, and beside the scope's table of refusals. The
+//! behind the tests of protected parents and of blank quads, and beside the scope's table of refusals. The
 //! chi of those kept is for `count_chi`.
 
 use mom::{CountMerge, Refusal};

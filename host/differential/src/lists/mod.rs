@@ -37,7 +37,7 @@ pub trait Value: Copy + Debug + Ord + Send + 'static {
     /// The scope's chi. No answer is held to it; it says where to put T.
     fn chi2(values: [Self; 4], parent_depth: u8) -> f64;
 
-    /// Whether four are merged at any T, from M on: counts of 0, by note 4.
+    /// Whether four are merged at any T, from M on, under a parent that is not listed: counts of 0, by note 4.
     fn are_blank(values: [Self; 4]) -> bool;
 
     /// Values for which a call is refused, or may be.

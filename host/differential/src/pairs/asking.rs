@@ -5,7 +5,10 @@ use mom::{Figures, Refusal};
 use oracle::run;
 
 use super::Input;
-use crate::lists::{Step, Value};
+use crate::{
+    lists::{Step, Value},
+    protected,
+};
 
 /// The original's pool.
 #[derive(Clone, Debug)]
@@ -40,6 +43,19 @@ impl Input<u32> {
             Some(refusal) => Err(refusal),
             None => Ok(self.pooled()),
         }
+    }
+
+    /// What an ask told before note 11, where that was another: the figures in which blank sky is merged under
+    /// listed parents too.
+    pub fn former_figures(&self) -> Option<Figures> {
+        let right = self.asked().ok()?.figures();
+        let protected = protected::without_blanks(&self.protected, &self.kept());
+        let former = Input {
+            protected,
+            ..self.clone()
+        };
+        let figures = former.pooled().figures();
+        (figures != right).then_some(figures)
     }
 
     /// What a commit of figures is to leave, by what an ask is answered.

@@ -37,7 +37,7 @@ impl<V: Combine> Input<V> {
     }
 
     /// Under the larger of the two entries; or the smaller one, and a cell between them.
-    fn under_nested(&self, list: usize) -> Option<Self> {
+    pub fn under_nested(&self, list: usize) -> Option<Self> {
         let [over, under] = [&self.left, &self.right].map(|map| map.entries()[0].0);
         let middle = under.ancestor((over.depth + under.depth) / 2);
         let lists = [&[over][..], &[middle, under]];
@@ -211,6 +211,17 @@ pub fn in_a_base_cell<V: Combine, const N: usize>(
     (0..maps.len() * maps.len()).flat_map(move |pair| {
         let (left, right) = (&maps[pair / maps.len()], &maps[pair % maps.len()]);
         settings.map(|(m, t)| Input::new(left.clone(), right.clone(), m, t).with_places())
+    })
+}
+
+/// Pairs in a base cell, each also under all lists that protect the cell, or what might be taken for it.
+pub fn under_lists<V: Combine>(
+    pairs: impl Iterator<Item = Input<V>>,
+) -> impl Iterator<Item = Input<V>> {
+    pairs.flat_map(|pair| {
+        let listed = (0..).map_while(|list| pair.under_base_cell(list));
+        let listed: Vec<_> = listed.collect();
+        [pair].into_iter().chain(listed)
     })
 }
 

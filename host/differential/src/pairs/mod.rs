@@ -21,7 +21,7 @@ use crate::{
 };
 
 pub use asking::Pooled;
-pub use draw::{cells as two_maps, in_a_base_cell, nested};
+pub use draw::{cells as two_maps, in_a_base_cell, nested, under_lists};
 pub use overlay::{overlay, Seen};
 
 /// What two maps hold that are combined.
