@@ -211,23 +211,39 @@ fn the_count_merger_merges_four_blanks_at_a_threshold_of_0_or_less() {
     }
 }
 
-/// The original has no list: it merges what ours keeps, with its chi.
+/// The original has no list: it merges what ours keeps, with its chi, blank or not.
 #[test]
 fn the_mergers_keep_four_under_a_listed_parent() {
     let t = f64::INFINITY;
     for (parent, hash) in [(0, 0), (0, 11), (28, 5)] {
         let list = zuniqs([(parent, hash)]);
-        assert_eq!(run::merge_counts_by_chi(parent, 0, t, [4; 4]), Some(16));
-        let ours = mom::chi2_count_merger(parent, hash, 0, t, &list, [4; 4]);
-        assert_eq!(ours, Ok(CountMerge::Kept(0.0)));
-        let ours = mom::chi2_count_merger(parent, hash, 0, t, &list, [0; 4]);
-        assert_eq!(ours, Ok(CountMerge::Merged(0)));
+        for count in [4, 0] {
+            let merged = run::merge_counts_by_chi(parent, 0, t, [count; 4]);
+            assert_eq!(merged, Some(4 * count));
+            let ours = mom::chi2_count_merger(parent, hash, 0, t, &list, [count; 4]);
+            assert_eq!(ours, Ok(CountMerge::Kept(0.0)));
+        }
         // Above c at every depth, and without rounding.
         let m = 2f64.powi(100);
         let merged = run::merge_densities_by_chi(parent, 0, t, [m; 4]);
         assert_eq!(merged, Some(m));
         let ours = mom::chi2_density_merger(parent, hash, 0, t, &list, [m; 4]);
         assert_eq!(ours, Ok(DensityMerge::Kept(0.0)));
+    }
+}
+
+/// No difference: the original keeps blanks at such a T, and ours does where their parent is listed.
+#[test]
+fn the_count_merger_keeps_four_blanks_under_a_listed_parent_as_the_original_does() {
+    let list = zuniqs([(28, 5), (0, 0)]);
+    for t in NOT_ABOVE_0 {
+        for (parent, hash) in [(0, 0), (28, 5)] {
+            assert_eq!(run::merge_counts_by_chi(parent, 0, t, [0; 4]), None);
+            let ours = mom::chi2_count_merger(parent, hash, 0, t, &list, [0; 4]);
+            assert_eq!(ours, Ok(CountMerge::Kept(0.0)));
+            let ours = mom::chi2_count_merger(parent, hash + 1, 0, t, &list, [0; 4]);
+            assert_eq!(ours, Ok(CountMerge::Merged(0)));
+        }
     }
 }
 
@@ -517,22 +533,22 @@ fn add_counts_merges_blanks_at_a_threshold_of_0_or_less() {
     }
 }
 
-/// The original merges (1, 0) to (1, 3) into (0, 0); the list keeps them, and blanks it doesn't.
+/// The original merges (1, 0) to (1, 3) into (0, 0); the list keeps them, and blanks as well.
 #[test]
 fn the_add_calls_keep_four_under_a_listed_parent() {
     let list = zuniqs([(0, 0)]);
     let hashes = [0, 1, 2, 3];
     let four = zuniqs(hashes.map(|hash| (1, hash)));
     let t = f64::INFINITY;
-    for (count, entries) in [(1, 4), (0, 1)] {
+    for count in [1, 0] {
         let cells = hashes.map(|hash| (hash, count));
         assert_eq!(original_built((1, 0, t), &cells).len(), 1);
         let (mut zuniqs, mut counts) = ([77; 4], [77; 4]);
         let (z, n) = (&mut zuniqs, &mut counts);
         let ours = mom::add_counts(1, 0, t, &list, 0, z, n, &hashes, &[count; 4]);
-        let total = 4 * count;
+        let (entries, total) = (4, 4 * count);
         assert_eq!(ours, Ok(Added { entries, total }));
-        assert!(count == 0 || (zuniqs, counts) == (four, [count; 4]));
+        assert_eq!((zuniqs, counts), (four, [count; 4]));
     }
     for density in [0.0, 8.0] {
         let cells = hashes.map(|hash| (hash, density));

@@ -259,23 +259,24 @@ fn the_product_refuses_what_is_not_finite() {
     assert_product_refused(2.0, f64::MAX, 0.0, 10);
 }
 
-/// The original merges, also what it has split first; ours keeps the four, but merges blanks.
+/// The original merges, also what it has split first; ours keeps the four, blank or not.
 #[test]
 fn the_pool_keeps_four_under_a_listed_parent() {
     let list = [run::to_zuniq(0, 0)];
     let t = f64::INFINITY;
-    let (four, one) = (entries(&FOUR), entries(&[(1, 0, 0)]));
-    let (base, blank) = (entries(&[(0, 0, 4)]), entries(&[(0, 0, 0)]));
-    for (left, right) in [(&four[..], &NONE[..]), (&base, &one)] {
-        let pair = (1, left, 1, right, 0, t);
-        assert_eq!(
-            (original(pair), ours(pair)),
-            (base.clone(), Ok(base.clone()))
-        );
-        assert_eq!(ours_under(&list, pair), Ok(four.clone()));
+    let one = entries(&[(1, 0, 0)]);
+    for count in [1, 0] {
+        let four = entries(&FOUR.map(|(depth, hash, _)| (depth, hash, count)));
+        let base = entries(&[(0, 0, 4 * count)]);
+        for (left, right) in [(&four[..], &NONE[..]), (&base, &one)] {
+            let pair = (1, left, 1, right, 0, t);
+            assert_eq!(
+                (original(pair), ours(pair)),
+                (base.clone(), Ok(base.clone()))
+            );
+            assert_eq!(ours_under(&list, pair), Ok(four.clone()));
+        }
     }
-    let pair = (1, &blank[..], 1, &one[..], 0, t);
-    assert_eq!(ours_under(&list, pair), Ok(blank.clone()));
 }
 
 /// The original's own product takes no merger.
@@ -363,7 +364,8 @@ fn the_ask_and_the_commit_refuse_what_the_pool_refuses() {
     }
 }
 
-/// Of blank sky, and under a listed parent: the original's own pool has another number of entries.
+/// Of blank sky, and under a listed parent: the original's own pool has another number of entries. Of blank sky
+/// under a listed parent it has as many, and a commit is refused that counts on their being merged.
 #[test]
 fn the_ask_counts_entries_as_the_pool_merges_them() {
     let (four, base) = (entries(&FOUR), entries(&[(0, 0, 4)]));
@@ -372,8 +374,12 @@ fn the_ask_counts_entries_as_the_pool_merges_them() {
     assert_eq!(original(pair), blank);
     assert_eq!(asked(&[], pair), Ok([4, 1, 0]));
     assert_eq!(committed(&[], pair, [4, 1, 0]), ours(pair));
-    let pair = (1, &four[..], 0, &NONE[..], 0, f64::INFINITY);
     let list = [run::to_zuniq(0, 0)];
+    assert_eq!(asked(&list, pair), Ok([4, 4, 0]));
+    assert_eq!(committed(&list, pair, [4, 4, 0]), Ok(original(pair)));
+    let refusal = Refusal::of(16, 0).unwrap();
+    assert_eq!(committed(&list, pair, [4, 1, 0]), Err(refusal));
+    let pair = (1, &four[..], 0, &NONE[..], 0, f64::INFINITY);
     assert_eq!(original(pair), base);
     assert_eq!(asked(&list, pair), Ok([4, 4, 4]));
     assert_eq!(committed(&list, pair, [4, 4, 4]), Ok(four));

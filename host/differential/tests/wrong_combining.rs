@@ -7,7 +7,7 @@ mod readings;
 
 use std::ops::Range;
 
-use decisions::{decide, wrong_decisions, Decision, Four};
+use decisions::{decide, decide_before, wrong_decisions, Decision, Four};
 use differential::{
     cells::{Cell, DEPTH_MAX},
     compare::Kind,
@@ -15,6 +15,7 @@ use differential::{
     kinds::Pool,
     lists::{Answer, Step},
     pairs::{overlay, Combine, Given, Input},
+    protected,
     random::Random,
 };
 use mom::Refusal;
@@ -503,6 +504,27 @@ fn no_wrong_protection_is_missed() {
         drawn.assert_found(wrong, program);
     }
     Drawn::<Float>::new(36).assert_protection_is_found();
+}
+
+/// "Every list that protects no blank quad's parent gives its former map."
+#[test]
+fn no_list_tells_the_former_rule_that_protects_no_blank_sky() {
+    let mut random = Random::new(38);
+    let drawn = (0..DRAWN).filter_map(|_| {
+        let mut input = Input::<u32>::random(&mut random);
+        input.refusal().is_none().then(|| {
+            input.protected = protected::without_blanks(&input.protected, &input.kept());
+            input
+        })
+    });
+    let drawn = Drawn::of(drawn);
+    let listed = drawn.0.iter().filter(|pair| !pair.0.protected.is_empty());
+    assert!(listed.count() > DRAWN / 10);
+    let former = Program {
+        decides: decide_before,
+        ..Program::right()
+    };
+    assert_eq!(drawn.differing(&former), 0);
 }
 
 fn is_blank(input: &Input<u32>, parent_depth: u8, counts: [u32; 4]) -> bool {
