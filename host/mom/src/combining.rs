@@ -156,8 +156,8 @@ fn pool_word(
 /// other in it, it is split: each of the four children gets a quarter of its count, and what is left over
 /// goes to them one each, from child h mod 4 on, h being the hash of the cell that is split, and after
 /// child 3 from child 0 on; so on, level by level. What comes out is merged under the two thresholds, as
-/// [`crate::add_counts`] merges: blank sky at any chi-square threshold, and other children of a parent in
-/// `protected` never. Every place after the entries is 0. A refused call leaves both buffers as they were.
+/// [`crate::add_counts`] merges: children of a parent in `protected` never, and other blank sky at any
+/// chi-square threshold. Every place after the entries is 0. A refused call leaves both buffers as they were.
 ///
 /// Refused by 1: a map's depth is over 29; then by 2: the depth threshold is over 29; then by 3: the
 /// chi-square threshold is a NaN; then by 15: a protected parent is not a valid zuniq, or not above the

@@ -10,8 +10,8 @@
 //! that a map covers, and clips a density map to such a part.
 //!
 //! Every call that merges takes a list of protected parents, cells that may never swallow their children:
-//! the four of a listed parent are kept, only blank sky is merged all the same. The list is of valid
-//! zuniqs, each above the one before; its cells may lie inside one another. An empty one changes nothing.
+//! the four of a listed parent are kept, blank sky too. The list is of valid zuniqs, each above the one
+//! before; its cells may lie inside one another. An empty one changes nothing.
 //! Batches that are added to one map, in however many calls, come under the same list.
 //!
 //! A [`pool`] of two maps can be asked for before it is done: [`ask`] answers what it costs and comes to,
@@ -35,7 +35,7 @@
 //!
 //! let protected = [mom::to_zuniq(0, 0).unwrap()];
 //! assert_eq!(merge(3.5, &protected, [1, 2, 4, 4]), mom::CountMerge::Kept(3.0));
-//! assert_eq!(merge(3.5, &protected, [0; 4]), mom::CountMerge::Merged(0));
+//! assert_eq!(merge(3.5, &protected, [0; 4]), mom::CountMerge::Kept(0.0));
 //!
 //! let (base, one) = ([mom::to_zuniq(0, 0).unwrap()], [mom::to_zuniq(1, 1).unwrap()]);
 //! let left = mom::Map { depth: 0, zuniqs: &base, values: &[10] };
@@ -146,9 +146,9 @@ pub fn are_overlapping(zuniq_l: u64, zuniq_r: u64) -> Result<bool, Refusal> {
 
 /// The counts of the four children of a cell, merged where `parent_depth` is at least `depth_threshold`,
 /// their chi-square is below `chi2_threshold` and the cell isn't in `protected`. Four counts of 0, blank
-/// sky, are merged at any `chi2_threshold`, from `depth_threshold` on, under a protected parent too. The
-/// chi-square of those that are kept is exactly their sum where a zero is among them, and else within
-/// their sum / 2^50 of the exact number (the example `chi_error` tries it).
+/// sky, are merged at any `chi2_threshold`, from `depth_threshold` on, but under a protected parent, which
+/// keeps them like others. The chi-square of those that are kept is exactly their sum where a zero is among
+/// them, and else within their sum / 2^50 of the exact number (the example `chi_error` tries it).
 /// Refused by 1: the parent depth is over 28; then by 2: the depth threshold is over 29; then by 3: the
 /// chi-square threshold is a NaN; then by 15: a protected parent is not a valid zuniq, or not above the
 /// one before, the place is its index; then by 7: the parent hash is N(parent depth) or more; then by
@@ -244,8 +244,8 @@ pub fn density_of_count(depth: u8, count: u32) -> Result<f64, Refusal> {
 /// Adds cells of that depth, given by `hashes` and their counts in `batch`, to the map in the first
 /// `held` places of `zuniqs` and `counts`. Each cell is appended; while the last four entries are
 /// the children of one parent and the count merger accepts them, they are replaced by the parent: so
-/// blank sky is merged at any chi-square threshold, as far up as the depth threshold lets it, and other
-/// children of a parent in `protected` are kept. Cells of depth 0 have no parent, and stay as they are.
+/// children of a parent in `protected` are kept, and other blank sky is merged at any chi-square threshold,
+/// as far up as the depth threshold lets it. Cells of depth 0 have no parent, and stay as they are.
 /// Every place after the entries is 0. A refused call leaves both buffers as they were.
 ///
 /// Refused by 1: the depth is over 29; then by 2: the depth threshold is over 29; then by 3: the

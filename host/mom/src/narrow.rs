@@ -83,7 +83,7 @@ pub fn get_overlapped_cells(zuniqs: &[u32], zuniq: u32) -> Result<(usize, &[u32]
 
 /// Adds cells of that depth, given by `hashes` and their counts in `batch`, to the map in the first
 /// `held` places of `zuniqs` and `counts`, as [`crate::add_counts`] does, by the same merger, which
-/// merges blank sky at any chi-square threshold and keeps other children of a parent in `protected`.
+/// keeps children of a parent in `protected` and merges other blank sky at any chi-square threshold.
 /// Every place after the entries is 0. A refused call leaves both buffers as they were.
 ///
 /// Refused by 1: the depth is over 13; then by 2: the depth threshold is over 29 (from 13 on nothing

@@ -527,14 +527,18 @@ mod tests {
         );
     }
 
-    /// Under a protected parent chi is written where four would be merged, and blanks write none.
+    /// Under a protected parent chi is written where four would be merged, that of blanks too, which is +0.
     #[test]
-    fn protected_children_write_their_chi_and_blanks_under_them_none() {
+    fn protected_children_write_their_chi_and_blanks_0() {
         let (list, parent) = (&[1 << 58], (0, 0));
         let counts = count_merger_under(list, parent, 0, 3.5, [1, 2, 4, 4]);
         assert_eq!(counts, (refused(KEPT, 0), 3.0));
-        let blanks = count_merger_under(list, parent, 0, 3.5, [0; 4]);
-        assert_eq!(blanks, (0, UNTOUCHED_F64));
+        for t in [0.0, -1.0, f64::NEG_INFINITY, 3.5, f64::INFINITY] {
+            let (word, chi) = count_merger_under(list, parent, 0, t, [0; 4]);
+            assert_eq!((word, chi.to_bits()), (refused(KEPT, 0), 0), "{t}");
+            let beside = count_merger_under(list, (0, 1), 0, t, [0; 4]);
+            assert_eq!(beside, (0, UNTOUCHED_F64), "{t}");
+        }
         let densities = density_merger_under(list, parent, 0, 3.5, [16.0; 4]);
         assert_eq!(densities, (refused(KEPT, 0), 0.0));
     }

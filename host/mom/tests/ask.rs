@@ -311,19 +311,36 @@ fn no_gap_and_no_protected_parent_is_overlooked() {
     }
 }
 
-/// From M on blank sky is merged at any T and under any list, and below M never.
+/// From M on blank sky is merged at any T but into a protected parent, and below M never. A commit that counts on
+/// the list's keeping none of it, as before note 11, is refused.
 #[test]
-fn no_blank_sky_is_counted_apart() {
+fn no_blank_sky_is_counted_apart_but_below_m_and_under_a_protected_parent() {
     let blanks: Vec<Entry> = (0..16).map(|hash| (2, hash, 0)).collect();
+    let (first, rest) = (map(2, &blanks[..7]), map(2, &blanks[7..]));
     let (base, second) = (map(0, &[(0, 0, 0)]), map(2, &[(2, 5, 0)]));
-    for t in [0.0, -0.0, -1.0, f64::NEG_INFINITY, 5e-324, INFINITY] {
-        for list in [vec![], list(&[(0, 0), (1, 1), (1, 3)])] {
-            for (m, entries) in [(0, 1), (1, 4), (2, 16)] {
-                let call = Call::of(&map(2, &blanks[..7]), &map(2, &blanks[7..]), (m, t), &list);
-                assert_asked(&call, 16, entries, 0);
-            }
-            for (m, entries) in [(0, 1), (1, 4), (2, 7)] {
-                assert_asked(&Call::of(&base, &second, (m, t), &list), 7, entries, 0);
+    // By M, how many there are of the sixteen, and of the seven that the base cell is split into.
+    let unlisted = [(1, 1), (4, 4), (16, 7)];
+    for (parents, by_m) in [
+        (&[][..], unlisted),
+        (&[(0, 1), (1, 4), (2, 0), (2, 5)], unlisted),
+        (&[(0, 0)], [(4, 4), (4, 4), (16, 7)]),
+        (&[(1, 3)], [(7, 1), (7, 4), (16, 7)]),
+        (&[(0, 0), (1, 1), (1, 3)], [(10, 7), (10, 7), (16, 7)]),
+    ] {
+        for t in [0.0, -0.0, -1.0, f64::NEG_INFINITY, 5e-324, INFINITY] {
+            for (m, (of_sixteen, of_seven)) in by_m.into_iter().enumerate() {
+                let (setting, list) = ((m as u8, t), &list(parents));
+                let of_sixteen = (Call::of(&first, &rest, setting, list), 16, of_sixteen);
+                let of_seven = (Call::of(&base, &second, setting, list), 7, of_seven);
+                let before = [unlisted[m].0, unlisted[m].1];
+                for ((call, cells, entries), before) in
+                    [of_sixteen, of_seven].into_iter().zip(before)
+                {
+                    assert_asked(&call, cells, entries, 0);
+                    if before != entries {
+                        call.assert_refused(figures(cells, before, 0), [cells; 2], 16, 0);
+                    }
+                }
             }
         }
     }
@@ -457,12 +474,11 @@ fn no_quad_is_merged_over_one_that_stays() {
             assert_asked(&Call::of(&rest, &source, (0, 0.0), &[]), 88, above + 4, 1);
             assert_asked(&Call::of(&rest, &source, (0, 1.5), &[]), 88, 1, 1);
             let parent = list(&[(depth - 1, hash / 4)]);
-            assert_asked(
-                &Call::of(&rest, &source, (0, 1.5), &parent),
-                88,
-                above + 4,
-                1,
-            );
+            for count in [0, 1] {
+                let one = map(29, &[(depth, hash, count)]);
+                let call = Call::of(&rest, &one, (0, 1.5), &parent);
+                assert_asked(&call, 88, above + 4, count);
+            }
         }
     }
 }

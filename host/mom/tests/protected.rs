@@ -1,11 +1,11 @@
-//! Protected parents, note 7 of the change requests: every call that merges keeps their children, blank
-//! sky apart, and a list that is none is refused by 15 with its index.
+//! Protected parents, notes 7 and 11 of the change requests: every call that merges keeps their children,
+//! blank or not, and a list that is none is refused by 15 with its index.
 
 use std::fmt::Debug;
 
 use mom::{
     add_counts, add_densities, ask, chi2_count_merger, chi2_density_merger, commit, from_zuniq,
-    narrow, pool, product, to_zuniq, Added, CountMerge, DensityMerge, Map, Refusal,
+    narrow, pool, product, to_zuniq, Added, CountMerge, DensityMerge, Figures, Map, Refusal,
 };
 
 type Cell = (u8, u64);
@@ -278,7 +278,7 @@ fn no_chi_is_lost_or_another_under_a_protected_parent() {
     let infinite = [f64::MAX, f64::MAX, 0.0, 0.0];
     for parent @ (depth, hash) in [(0, 0), (0, 11), (3, 100), (28, n(28) - 1)] {
         let list = &list(&[parent]);
-        for counts in (1..values.len().pow(4)).map(counts) {
+        for counts in (0..values.len().pow(4)).map(counts) {
             let of = |m, t, list| chi2_count_merger(depth, hash, m, t, list, counts).unwrap();
             let CountMerge::Kept(chi) = of(29, INFINITY, &[]) else {
                 panic!("{counts:?} are merged below M");
@@ -448,35 +448,120 @@ fn defined_map(quads: &[[Option<u32>; 4]; 4], merges: &dyn Fn(Cell, &[u32]) -> b
     entries
 }
 
-/// Every list out of (0, 0) and its children, over quads of ones, of blanks and with a cell left out.
-#[test]
-fn no_list_builds_another_map_than_the_defined_one() {
+/// Every list out of (0, 0) and its children.
+fn lists_of_five() -> impl Iterator<Item = Vec<Cell>> {
+    (0..1 << FIVE.len()).map(|chosen| {
+        let places = (0..FIVE.len()).filter(|place| chosen >> place & 1 == 1);
+        places.map(|place| FIVE[place]).collect()
+    })
+}
+
+/// Four quads of ones, of blanks or with a cell left out, under a list, M and T.
+#[derive(Debug)]
+struct Sky {
+    quads: [[Option<u32>; 4]; 4],
+    protected: Vec<Cell>,
+    m: u8,
+    t: f64,
+}
+
+/// All of them, under every list out of five.
+fn skies() -> impl Iterator<Item = Sky> {
     let kinds = [
         [Some(1); 4],
         [Some(0); 4],
         [Some(1), Some(1), None, Some(1)],
     ];
-    for chosen in 0..1 << FIVE.len() {
-        let places = (0..FIVE.len()).filter(|place| chosen >> place & 1 == 1);
-        let protected: Vec<Cell> = places.map(|place| FIVE[place]).collect();
-        for kind in 0..81 {
-            let quads = [kind / 27, kind / 9, kind / 3, kind].map(|kind| kinds[kind % 3]);
-            let counts = quads.concat().into_iter().enumerate();
-            let cells = counts.filter_map(|(hash, count)| Some((hash as u64, count?)));
-            let cells: Vec<(u64, u32)> = cells.collect();
-            for (m, t) in [(0, INFINITY), (1, INFINITY), (2, INFINITY), (0, 0.0)] {
-                // No chi is below 0, and each is below infinity.
-                let merges = |parent: Cell, counts: &[u32]| {
-                    let is_blank = counts == [0; 4];
-                    let is_kept = t == 0.0 || protected.contains(&parent);
-                    parent.0 >= m && (is_blank || !is_kept)
-                };
-                let entries = defined_map(&quads, &merges);
-                let built = |cut| built((2, m, t), &list(&protected), &cells, cut);
-                for cut in [0, 3, cells.len() / 2, cells.len()] {
-                    assert_eq!(built(cut), entries, "{protected:?} {cells:?} {m} {t}");
-                }
+    let settings = [(0, INFINITY), (1, INFINITY), (2, INFINITY), (0, 0.0)];
+    lists_of_five().flat_map(move |protected| {
+        (0..81 * settings.len()).map(move |way| {
+            let (m, t) = settings[way / 81];
+            Sky {
+                quads: [way / 27, way / 9, way / 3, way].map(|kind| kinds[kind % 3]),
+                protected: protected.clone(),
+                m,
+                t,
             }
+        })
+    })
+}
+
+impl Sky {
+    /// From M on no chi is below a T of 0, and each is below infinity.
+    fn merges_unlisted(&self, (depth, _): Cell, counts: &[u32]) -> bool {
+        depth >= self.m && (counts == [0; 4] || self.t > 0.0)
+    }
+
+    /// "Protection now comes first."
+    fn map(&self) -> Vec<Entry> {
+        defined_map(&self.quads, &|parent, counts| {
+            !self.protected.contains(&parent) && self.merges_unlisted(parent, counts)
+        })
+    }
+
+    /// By the rule that was before note 11: "though blank quads of Note 4 merge first."
+    fn merged_before(&self, parent: Cell, counts: &[u32]) -> bool {
+        let is_kept = self.protected.contains(&parent) && counts != [0; 4];
+        !is_kept && self.merges_unlisted(parent, counts)
+    }
+
+    fn map_before(&self) -> Vec<Entry> {
+        defined_map(&self.quads, &|parent, counts| {
+            self.merged_before(parent, counts)
+        })
+    }
+
+    /// Whether a parent is listed, from M on, of which that rule has four blank children.
+    fn protects_blanks(&self) -> bool {
+        self.protected.iter().any(|&(d, h)| {
+            let merges = |parent: Cell, counts: &[u32]| self.merged_before(parent, counts);
+            let of_child = |child| value((d + 1, child), &self.quads, &merges);
+            d >= self.m && (4 * h..4 * h + 4).all(|child| of_child(child) == Some(0))
+        })
+    }
+
+    /// What is built, at several cuts and both widths.
+    fn built(&self) -> Vec<Entry> {
+        let counts = self.quads.concat().into_iter().enumerate();
+        let cells = counts.filter_map(|(hash, count)| Some((hash as u64, count?)));
+        let cells: Vec<(u64, u32)> = cells.collect();
+        let (setting, list) = ((2, self.m, self.t), &list(&self.protected));
+        let whole = built(setting, list, &cells, 0);
+        for cut in [3, cells.len() / 2, cells.len()] {
+            assert_eq!(built(setting, list, &cells, cut), whole, "{cells:?} {cut}");
+        }
+        let list = &narrow_list(&self.protected);
+        assert_eq!(narrow_built(setting, list, &cells, 3), whole, "{cells:?}");
+        whole
+    }
+}
+
+#[test]
+fn no_list_builds_another_map_than_the_defined_one() {
+    for sky in skies() {
+        assert_eq!(sky.built(), sky.map(), "{sky:?}");
+    }
+}
+
+/// "Every list that protects no blank quad's parent gives its former map." Every other one gives another.
+#[test]
+fn no_map_is_another_than_before_but_where_blank_sky_is_protected() {
+    let mut met = [0; 2];
+    for sky in skies() {
+        let is_other = sky.built() != sky.map_before();
+        assert_eq!(is_other, sky.protects_blanks(), "{sky:?}");
+        met[is_other as usize] += 1;
+    }
+    assert!(met.iter().all(|&times| times > 1_000), "{met:?}");
+}
+
+/// Neither a protected parent nor what it lies in is there unless it was given.
+#[test]
+fn no_entry_lies_over_the_children_of_a_protected_parent() {
+    for sky in skies() {
+        for (depth, hash, _) in sky.built() {
+            let over = |&(d, h): &Cell| d >= depth && h >> (2 * (d - depth)) == hash;
+            assert!(!sky.protected.iter().any(over), "{sky:?}");
         }
     }
 }
@@ -486,58 +571,87 @@ fn no_list_builds_another_map_than_the_defined_one() {
 /// Of either sign, at 0 and far from it.
 const THRESHOLDS: [f64; 6] = [0.0, -1.0, f64::NEG_INFINITY, 5e-324, 3.5, INFINITY];
 
-/// "Though blank quads of Note 4 merge first": from M on, at any T.
+/// "Protection now comes first": at any T and M, with a chi of +0. Another parent has its blank sky merged, from
+/// M on.
 #[test]
-fn no_protected_parent_keeps_blank_sky_apart_and_none_swallows_it_below_m() {
-    let blanks = sixteen(0);
+fn no_threshold_merges_blank_sky_into_a_protected_parent_and_none_keeps_it_from_another() {
     for t in THRESHOLDS {
-        for m in 0..=2 {
-            let stay = 0..4u64.pow(m as u32);
-            let entries: Vec<Entry> = stay.map(|hash| (m, hash, 0)).collect();
-            for protected in [&[][..], &FIVE[..1], &FIVE[1..3], &FIVE] {
-                assert_built((2, m, t), protected, &blanks, &entries);
-            }
-        }
-        for p in 0..=28 {
-            let list = &list(&[(p, n(p) - 1)]);
+        for (p, h) in parents() {
+            let (listed, beside) = (&list(&[(p, h), (29, 0)]), &list(&others((p, h))));
             for m in 0..=29 {
-                let answer = chi2_count_merger(p, n(p) - 1, m, t, list, [0; 4]);
+                let kept = chi2_count_merger(p, h, m, t, listed, [0; 4]);
+                let is_0 = |chi: f64| chi.to_bits() == 0;
+                assert!(
+                    matches!(kept, Ok(CountMerge::Kept(chi)) if is_0(chi)),
+                    "({p}, {h}) {m} {t}"
+                );
+                let merged = chi2_count_merger(p, h, m, t, beside, [0; 4]);
                 let expected = match p >= m {
                     true => CountMerge::Merged(0),
                     false => CountMerge::Kept(0.0),
                 };
-                assert_eq!(answer, Ok(expected), "{p} {m} {t}");
+                assert_eq!(merged, Ok(expected), "({p}, {h}) {m} {t}");
             }
         }
     }
 }
 
-/// One source among the four is enough for the list: what lies beside them is blank and merged.
+/// Every list out of five: what it names is not merged, nor what lies over it, and all else is.
 #[test]
-fn no_blank_sky_beside_a_source_is_kept_by_a_list() {
+fn no_list_keeps_or_merges_other_blank_sky_than_it_names() {
+    let blanks = sixteen(0);
+    for protected in lists_of_five() {
+        for m in 0..=2 {
+            let merges = |parent: Cell, _: &[u32]| parent.0 >= m && !protected.contains(&parent);
+            let entries = defined_map(&[[Some(0); 4]; 4], &merges);
+            for t in THRESHOLDS {
+                assert_built((2, m, t), &protected, &blanks, &entries);
+            }
+        }
+    }
+    let third = [(2, 8, 0), (2, 9, 0), (2, 10, 0), (2, 11, 0)];
+    let apart = [&[(1, 0, 0), (1, 1, 0)], &third[..], &[(1, 3, 0)]].concat();
+    assert_built((2, 0, 0.0), &[(1, 2)], &blanks, &apart);
+}
+
+/// One source among sixteen: the blank sky beside it is merged but into a protected parent.
+#[test]
+fn no_blank_sky_beside_a_source_is_merged_or_kept_against_a_list() {
     let mut cells = sixteen(0);
     cells[5].1 = 1;
     let quad = [(2, 4, 0), (2, 5, 1), (2, 6, 0), (2, 7, 0)];
     let apart = [&[(1, 0, 0)], &quad[..], &[(1, 2, 0), (1, 3, 0)]].concat();
+    let all: Vec<Entry> = cells
+        .iter()
+        .map(|&(hash, count)| (2, hash, count))
+        .collect();
+    let last = [&apart[..6], &all[12..]].concat();
     for t in [INFINITY, 1.5, 1.0, 0.0] {
-        assert_built((2, 0, t), &FIVE, &cells, &apart);
+        assert_built((2, 0, t), &FIVE, &cells, &all);
         assert_built((2, 0, t), &[(1, 1)], &cells, &apart);
+        assert_built((2, 0, t), &[(1, 1), (1, 3)], &cells, &last);
     }
     let four = [(1, 0, 0), (1, 1, 1), (1, 2, 0), (1, 3, 0)];
     assert_built((2, 0, INFINITY), &[(0, 0)], &cells, &four);
 }
 
-/// A blank entry that is split, and blank quads of one map or both.
+/// A blank entry that is split, and blank quads of one map or both: under a list with their parent, and under
+/// one with what lies in it.
 #[test]
-fn no_pool_of_blank_sky_is_kept_apart_by_a_list() {
+fn no_pool_merges_blank_sky_into_a_protected_parent_and_none_keeps_it_from_another() {
     let base = [zuniq((0, 0))];
     let quad = [0, 1, 2, 3].map(|hash| zuniq((1, hash)));
-    let list = &list(&FIVE);
+    let (listed, beside) = (&list(&FIVE)[..], &list(&FIVE[1..])[..]);
     for (left, right) in [(&base[..], &quad[1..2]), (&quad[..2], &quad[2..])] {
         let l = map(1, left, &[0; 2][..left.len()]);
         let r = map(1, right, &[0; 2][..right.len()]);
         for t in THRESHOLDS {
-            for (m, entries) in [(0, &base[..]), (1, &quad[..])] {
+            for (list, m, entries) in [
+                (listed, 0, &quad[..]),
+                (listed, 1, &quad),
+                (beside, 0, &base),
+                (beside, 1, &quad),
+            ] {
                 let (mut z, mut c) = ([5; 4], [5; 4]);
                 let pooled = pool(l, r, m, t, list, &mut z, &mut c);
                 let added = Added {
@@ -548,6 +662,67 @@ fn no_pool_of_blank_sky_is_kept_apart_by_a_list() {
                 assert_eq!((&z[..entries.len()], c), (entries, [0; 4]));
             }
         }
+    }
+}
+
+/// The figures of blank sky under a list, which has more entries than before: the former ones are refused.
+#[test]
+fn no_commit_takes_the_former_figures_of_protected_blank_sky() {
+    let (base, one) = ([zuniq((0, 0))], [zuniq((2, 5))]);
+    let (l, r) = (map(0, &base, &[0]), map(2, &one, &[0]));
+    for (protected, entries) in [(&[][..], 1), (&[(0, 0)], 4), (&[(1, 1)], 7), (&[(1, 2)], 1)] {
+        let list = &list(protected);
+        for t in THRESHOLDS {
+            let asked = ask(l, r, 0, t, list).unwrap();
+            assert_eq!((asked.cells, asked.entries, asked.total), (7, entries, 0));
+            let (mut z, mut c) = ([5; 7], [5; 7]);
+            let former = Figures {
+                entries: 1,
+                ..asked
+            };
+            let committed = commit(l, r, 0, t, list, former, &mut z, &mut c);
+            if entries > 1 {
+                assert_eq!(committed, refusal(16, 0), "{protected:?} {t}");
+                assert_eq!((z, c), ([5; 7], [5; 7]));
+            } else {
+                assert_eq!(committed, Ok(Added { entries, total: 0 }));
+            }
+        }
+    }
+}
+
+/// Adding to a map of one width.
+type Add<Z> =
+    fn(u8, u8, f64, &[Z], usize, &mut [Z], &mut [u32], &[Z], &[u32]) -> Result<Added, Refusal>;
+
+/// Four blanks and then two cells of 1, into five places.
+fn add_twice<Z: Copy + Debug + From<u8> + PartialEq>(
+    add: Add<Z>,
+    list: &[Z],
+) -> [Result<Added, Refusal>; 2] {
+    let hashes = [0, 1, 2, 3, 4, 5].map(Z::from);
+    let (mut z, mut c) = ([hashes[5]; 5], [5; 5]);
+    let first = add(1, 0, 0.0, list, 0, &mut z, &mut c, &hashes[..4], &[0; 4]);
+    let (before, held) = ((z, c), first.unwrap().entries);
+    let second = add(1, 0, 0.0, list, held, &mut z, &mut c, &hashes[4..], &[1; 2]);
+    assert!(second.is_ok() || (z, c) == before);
+    [first, second]
+}
+
+/// "Calls handed the longer map judge by it": merged, the four leave the two cells space, and kept they do not.
+#[test]
+fn no_space_is_counted_on_that_protected_blank_sky_takes_up() {
+    let added = |entries, total| Ok(Added { entries, total });
+    for (protected, answers) in [
+        (&[][..], [added(1, 0), added(3, 2)]),
+        (&[(0, 1), (1, 0)], [added(1, 0), added(3, 2)]),
+        (&[(0, 0)], [added(4, 0), refusal(11, 0)]),
+    ] {
+        assert_eq!(add_twice(add_counts, &list(protected)), answers);
+        assert_eq!(
+            add_twice(narrow::add_counts, &narrow_list(protected)),
+            answers
+        );
     }
 }
 
@@ -586,9 +761,8 @@ fn no_list_tells_a_pool_from_the_swapped_one() {
         map(2, &quad, &[0; 4]),
         map(0, &[], &[]),
     ];
-    for chosen in 0..1 << FIVE.len() {
-        let places = (0..FIVE.len()).filter(|place| chosen >> place & 1 == 1);
-        let list = &list(&places.map(|place| FIVE[place]).collect::<Vec<_>>());
+    for protected in lists_of_five() {
+        let list = &list(&protected);
         for l in maps {
             for r in maps {
                 for t in [0.0, 3.5, INFINITY] {
@@ -610,13 +784,15 @@ fn no_pool_merges_into_a_protected_parent_on_the_way_up() {
     let (base, last) = ([zuniq((0, 0))], [zuniq((29, 0))]);
     for depth in 0..=28 {
         let list = &list(&[(depth, 0)]);
-        let (mut z, mut c) = ([5; 88], [5; 88]);
-        let (l, r) = (map(0, &base, &[1]), map(29, &last, &[7]));
-        let pooled = pool(l, r, 0, INFINITY, list, &mut z, &mut c);
-        let entries = 3 * depth as usize + 4;
-        assert_eq!(pooled, Ok(Added { entries, total: 8 }), "{depth}");
-        let children = [0, 1, 2, 3].map(|hash| (depth + 1, hash));
-        assert_eq!(cells_of(&z[..4]), children);
+        for (counts, t) in [([1, 7], INFINITY), ([0; 2], INFINITY), ([0; 2], 0.0)] {
+            let (mut z, mut c) = ([5; 88], [5; 88]);
+            let (l, r) = (map(0, &base, &counts[..1]), map(29, &last, &counts[1..]));
+            let pooled = pool(l, r, 0, t, list, &mut z, &mut c);
+            let (entries, total) = (3 * depth as usize + 4, counts.iter().sum());
+            assert_eq!(pooled, Ok(Added { entries, total }), "{depth} {t}");
+            let children = [0, 1, 2, 3].map(|hash| (depth + 1, hash));
+            assert_eq!(cells_of(&z[..4]), children);
+        }
     }
 }
 

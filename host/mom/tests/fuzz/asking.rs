@@ -29,8 +29,11 @@ pub struct Asking {
     /// Accepted, with all cells or fewer entries left.
     unmerged: usize,
     merged: usize,
-    /// Asked with other entries than under no list.
+    /// Asked with other entries than under no list; also where there is nothing but blank sky.
     kept: usize,
+    blank: usize,
+    /// Refused by 16 for the entries that blank sky would have under no list, as it had before request 11.
+    former: usize,
     /// Refused by 16 for the cells, the entries or the total alone.
     one: [usize; 3],
     /// Refused by 16, where there are too few places too.
@@ -69,11 +72,18 @@ impl Asking {
         if asked.is_ok() {
             let swapped = mom::ask(maps[1], maps[0], call.m, call.t, &call.protected);
             assert_eq!(swapped, asked, "{}", shown());
-            self.kept += (plain::ask(&call.unprotected(), values) != asked) as usize;
         }
 
         let right = asked.unwrap_or(NONE);
-        let figures = draw.figures(right);
+        let unlisted = asked.and(plain::ask(&call.unprotected(), values));
+        let unlisted = unlisted.unwrap_or(NONE);
+        let is_blank = unlisted != right && right.total == 0;
+        self.kept += (unlisted != right) as usize;
+        self.blank += is_blank as usize;
+        let figures = match is_blank && draw.one_in(4) {
+            true => unlisted,
+            false => draw.figures(right),
+        };
         let (z, places) = draw.output(right.cells);
         let n = draw.counts_of(places);
         let expected = plain::commit(call, values, figures, &z, &n);
@@ -82,6 +92,8 @@ impl Asking {
         assert_eq!(oz, fenced(FENCES.0, &expected.1), "{}", shown());
         assert_eq!(on, fenced(FENCES.1, &expected.2), "{}", shown());
         self.committed.add(&answer);
+        let is_refused = answer.is_err_and(|refusal| refusal.number() == 16);
+        self.former += (is_refused && is_blank && figures == unlisted) as usize;
         self.tally(asked, figures, z.len(), answer);
         if z.len() == n.len() {
             assert_single_call(maps, call, asked, (&z, &n));
@@ -126,6 +138,8 @@ impl Asking {
         assert_some("asking", "a pool with nothing merged", self.unmerged);
         assert_some("asking", "a pool with cells merged", self.merged);
         assert_some("asking", "cells kept by the list", self.kept);
+        assert_some("asking", "blank sky kept by the list", self.blank);
+        assert_some("asking", "the former entries of blank sky", self.former);
         assert_some("asking", "other cells alone", self.one[0]);
         assert_some("asking", "other entries alone", self.one[1]);
         assert_some("asking", "another total alone", self.one[2]);

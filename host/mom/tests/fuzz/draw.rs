@@ -149,7 +149,7 @@ impl Draw {
         ((self.bits() as u128 * n as u128) >> 64) as usize
     }
 
-    fn one_in(&mut self, n: usize) -> bool {
+    pub fn one_in(&mut self, n: usize) -> bool {
         self.below(n) == 0
     }
 
@@ -244,9 +244,9 @@ impl Draw {
         }
     }
 
-    /// Four for a merger, now and then of blank sky with hardly a source.
+    /// Four for a merger, half of them of blank sky with hardly a source.
     pub fn four_counts(&mut self) -> [u32; 4] {
-        if self.one_in(4) {
+        if self.one_in(2) {
             return [(); 4].map(|_| self.one_in(8) as u32);
         }
         [(); 4].map(|_| self.count())
@@ -317,9 +317,9 @@ impl Draw {
         numbers.map(|number| (0..number).map(|_| self.one_in(few) as u32).collect())
     }
 
-    /// The held counts and those of the batch, now and then of blank sky.
+    /// The held counts and those of the batch, half of them of blank sky.
     pub fn add_counts<Z>(&mut self, call: &AddCall<Z>) -> [Vec<u32>; 2] {
-        if self.one_in(3) {
+        if self.one_in(2) {
             return self.blank_counts([call.values, call.batch]);
         }
         [call.values, call.batch].map(|number| self.counts_of(number))
@@ -558,7 +558,7 @@ impl Draw {
     /// Counts of two maps whose total mostly is a u32, and now and then the last one or just none; or
     /// blank sky.
     pub fn pool_counts(&mut self, [left, right]: [usize; 2]) -> [Vec<u32>; 2] {
-        if self.one_in(4) {
+        if self.one_in(3) {
             return self.blank_counts([left, right]);
         }
         let mut counts: Vec<u32> = if self.one_in(16) {

@@ -101,9 +101,11 @@ fn mergers() {
     // A NaN chi is one however its bits are.
     let bits = |x: f64| if x.is_nan() { None } else { Some(x.to_bits()) };
     // Blank sky at a T that its chi is not below, from M on and below M.
-    let (mut merged, mut kept) = (0, 0);
-    // Blank sky merged under a protected parent, and counts and densities that only the list keeps.
-    let (mut blank, mut listed) = (0, [0; 2]);
+    let (mut merged, mut below) = (0, 0);
+    // Blank sky from M on, under a protected parent, at other T and at such a one, and beside a list.
+    let (mut kept, mut beside) = ([0; 2], 0);
+    // Counts and densities that only the list keeps.
+    let mut listed = [0; 2];
     let (mut of_counts, mut of_densities) = (Met::default(), Met::default());
     rounds("mergers", |draw| {
         let ((p, h), m) = (draw.parent(), draw.depth::<u64>());
@@ -128,12 +130,13 @@ fn mergers() {
             expected(&list),
             "({p}, {h}) {m} {t} {list:?} {counts:?}"
         );
-        if counts == [0; 4] && t <= 0.0 {
-            merged += (answer == Ok((Some(0), None))) as usize;
-            kept += (answer == Ok((None, Some(0)))) as usize;
+        if counts == [0; 4] && answer.is_ok() {
+            let (is_low, is_merged) = (t <= 0.0, answer == Ok((Some(0), None)));
+            merged += (is_low && is_merged) as usize;
+            below += (is_low && p < m) as usize;
+            kept[is_low as usize] += (p >= m && !is_merged) as usize;
+            beside += (is_merged && !list.is_empty()) as usize;
         }
-        let is_listed = answer.is_ok() && list.contains(&plain::encode(p, h).unwrap());
-        blank += (is_listed && answer == Ok((Some(0), None))) as usize;
         listed[0] += (answer.is_ok() && answer != expected(&[])) as usize;
 
         let densities = [(); 4].map(|_| draw.density());
@@ -157,12 +160,11 @@ fn mergers() {
         listed[1] += (answer.is_ok() && answer != expected(&[])) as usize;
     });
     assert_some("mergers", "blank sky merged", merged);
-    assert_some("mergers", "blank sky kept", kept);
-    assert_some(
-        "mergers",
-        "blank sky merged under a protected parent",
-        blank,
-    );
+    assert_some("mergers", "blank sky kept below M", below);
+    assert_some("mergers", "blank sky kept by the list", kept[0]);
+    assert_some("mergers", "blank sky kept by the list, T up to 0", kept[1]);
+    let what = "blank sky merged beside a list that does not have its parent";
+    assert_some("mergers", what, beside);
     assert_some("mergers", "counts kept by the list", listed[0]);
     assert_some("mergers", "densities kept by the list", listed[1]);
     of_counts.assert_all(&[0, 1, 2, 3, 7, 10, 15]);
@@ -290,11 +292,13 @@ impl BaseCells {
     }
 }
 
-/// Accepted calls that merge blank sky though its chi is not below T: also some that was held.
+/// Accepted calls that merge blank sky though its chi is not below T: also some that was held, and under a
+/// list that does not have its parent.
 #[derive(Default)]
 struct BlankSky {
     merged: usize,
     held: usize,
+    beside: usize,
 }
 
 impl BlankSky {
@@ -310,38 +314,52 @@ impl BlankSky {
         }
         self.merged += 1;
         self.held += !held.iter().all(|zuniq| zuniqs.contains(zuniq)) as usize;
+        self.beside += !call.protected.is_empty() as usize;
     }
 
     fn assert_some(self, name: &str) {
         assert_some(name, "blank sky merged", self.merged);
         assert_some(name, "blank sky merged with some that was held", self.held);
+        let what = "blank sky merged beside a list that does not have its parent";
+        assert_some(name, what, self.beside);
     }
 }
 
-/// Accepted calls whose list keeps apart what would be merged, and those that merge the children of a
-/// protected parent, as only blank sky may be.
+/// Accepted calls whose list keeps apart what would be merged; also where there is nothing but blank sky.
 #[derive(Default)]
 struct Protected {
     kept: usize,
-    merged: usize,
+    blank: usize,
 }
 
 impl Protected {
-    /// By the list, the zuniqs before and after merging, and those after merging with no list.
+    /// By the list, the zuniqs before and after merging, and those after merging with no list. No protected
+    /// parent is there that wasn't before.
     fn add<Z: Zuniq>(&mut self, list: &[Z], before: &[Z], after: &[Z], unprotected: &[Z]) {
+        let is_merged = |zuniq: &&Z| list.contains(zuniq) && !before.contains(zuniq);
+        assert_eq!(after.iter().find(is_merged), None, "{list:?} {before:?}");
         self.kept += (after != unprotected) as usize;
-        let is_merged = |zuniq: &Z| list.contains(zuniq) && !before.contains(zuniq);
-        self.merged += after.iter().any(is_merged) as usize;
+    }
+
+    /// The same of counts that come to this total.
+    fn add_counts<Z: Zuniq>(
+        &mut self,
+        (list, total): (&[Z], u32),
+        before: &[Z],
+        after: &[Z],
+        unprotected: &[Z],
+    ) {
+        self.add(list, before, after, unprotected);
+        self.blank += (total == 0 && after != unprotected) as usize;
     }
 
     fn assert_counts(self, name: &str) {
         assert_some(name, "counts kept by the list", self.kept);
-        assert_some(name, "blank sky merged against the list", self.merged);
+        assert_some(name, "blank sky kept by the list", self.blank);
     }
 
     fn assert_densities(self, name: &str) {
         assert_some(name, "densities kept by the list", self.kept);
-        assert_eq!(self.merged, 0, "{name}: densities merged against the list");
     }
 }
 
@@ -362,9 +380,9 @@ fn adding() {
             .map(|added| (added.entries, added.total));
         counts.add(&answer);
         base_cells.add(&call, answer.is_ok());
-        if let Ok((entries, _)) = answer {
+        if let Ok((entries, total)) = answer {
             blank_sky.add(&call, &z[..entries], &n[..entries]);
-            of_counts.add(list, &call.unmerged(), &z, &with_no_list);
+            of_counts.add_counts((list, total), &call.unmerged(), &z, &with_no_list);
         }
         assert_eq!((answer, z, n), expected, "{call:?} {batch:?}");
 
@@ -431,8 +449,8 @@ fn combining() {
     let (mut pools, mut products) = (Met::default(), Met::default());
     let (mut of_counts, mut of_densities) = (Protected::default(), Protected::default());
     let (mut shared, mut asking) = (Shared::default(), Asking::default());
-    // Pools in which blank sky is merged though its chi is not below T.
-    let mut blank = 0;
+    // Pools in which blank sky is merged though its chi is not below T, also under a list.
+    let (mut blank, mut beside) = (0, 0);
     rounds("combining", |draw| {
         let call = draw.combine_call();
         let (list, unprotected) = (&call.protected, call.unprotected());
@@ -449,13 +467,15 @@ fn combining() {
         let answer = mom::pool(map(left, &l), map(right, &r), m, t, list, &mut z, &mut n)
             .map(|added| (added.entries, added.total));
         pools.add(&answer);
-        if let Ok((entries, _)) = answer {
-            blank += (t <= 0.0 && merges_blanks(&before, &z[..entries], &n)) as usize;
+        if let Ok((entries, total)) = answer {
+            let is_merged = t <= 0.0 && merges_blanks(&before, &z[..entries], &n);
+            blank += is_merged as usize;
             shared.add(&plain::split_counts(&call, [&l, &r]));
-        }
-        if answer.is_ok() && !list.is_empty() {
-            let (_, with_no_list, _) = plain::pool(&unprotected, [&l, &r], &z, &n);
-            of_counts.add(list, &before, &z, &with_no_list);
+            if !list.is_empty() {
+                beside += is_merged as usize;
+                let (_, with_no_list, _) = plain::pool(&unprotected, [&l, &r], &z, &n);
+                of_counts.add_counts((list, total), &before, &z, &with_no_list);
+            }
         }
         assert_eq!((answer, z, n), expected, "{call:?} {l:?} {r:?}");
         asking.round(draw, &call, [&l, &r]);
@@ -477,6 +497,8 @@ fn combining() {
         assert_eq!(bits(&x), bits(&expected.2), "{}", shown());
     });
     assert_some("combining", "blank sky merged", blank);
+    let what = "blank sky merged beside a list that does not have its parent";
+    assert_some("combining", what, beside);
     shared.assert_some("combining");
     of_counts.assert_counts("combining");
     of_densities.assert_densities("combining");

@@ -94,11 +94,11 @@ fn adding() {
             .map(|added| (added.entries, added.total));
         met.add(&answer);
         base_cells.add(&call, answer.is_ok());
-        if let Ok((entries, _)) = answer {
+        if let Ok((entries, total)) = answer {
             deepest += (d == narrow::MAX_DEPTH) as usize;
             merging += (m > 0 && entries < held + batch.len()) as usize;
             blank_sky.add(&call, &z[..entries], &n[..entries]);
-            protected.add(list, &call.unmerged(), &z, &with_no_list);
+            protected.add_counts((list, total), &call.unmerged(), &z, &with_no_list);
         }
         assert_eq!((answer, z, n), expected, "{call:?} {batch:?}");
     });

@@ -125,10 +125,14 @@ pub struct Setting<'a, Z> {
 }
 
 impl<Z: Zuniq> Setting<'_, Z> {
-    /// "If parent depth ≥ M and chi < T." "A quad whose parent is listed is kept." (Request 7.)
-    fn merges(&self, (p, h): Cell, chi: f64) -> bool {
-        let is_listed = self.protected.contains(&encode(p, h).unwrap());
-        p >= self.m && chi < self.t && !is_listed
+    /// "A quad whose parent is listed is kept." (Request 7.)
+    fn keeps(&self, (p, h): Cell) -> bool {
+        self.protected.contains(&encode(p, h).unwrap())
+    }
+
+    /// "If parent depth ≥ M and chi < T", where no list keeps them.
+    fn merges(&self, parent: Cell, chi: f64) -> bool {
+        !self.keeps(parent) && parent.0 >= self.m && chi < self.t
     }
 
     /// 2, 3 and 15.
@@ -149,9 +153,10 @@ impl<Z: Zuniq> Setting<'_, Z> {
     }
 
     /// The count, or the chi of what is kept. "Four siblings of count 0 now merge at any T, where the
-    /// parent depth is at least M." (Request 4.) "Though blank quads of Note 4 merge first." (Request 7.)
+    /// parent depth is at least M." (Request 4.) "A blank quad under a protected parent meets two rules":
+    /// "protection now comes first." (Request 11.)
     fn merge_counts(&self, parent: Cell, counts: [u32; 4]) -> Result<u32, f64> {
-        if parent.0 >= self.m && counts == [0; 4] {
+        if !self.keeps(parent) && parent.0 >= self.m && counts == [0; 4] {
             return Ok(0);
         }
         let [a, b, c, d] = counts.map(f64::from);
