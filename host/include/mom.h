@@ -33,9 +33,9 @@
  * A protected parent is a cell that may never swallow its children. Every function that merges takes a
  * list of them, protected_parents: their zuniqs, narrow ones for a narrow map. It is valid where each
  * is a valid zuniq and above the one before; its cells may lie inside one another. Four children whose
- * parent is listed are kept, whatever their chi-square; only blank sky, four counts of 0, is merged all
- * the same. A list that is empty changes nothing. Batches that are added to one map, in however many
- * calls, come under the same list.
+ * parent is listed are kept, whatever their chi-square, and blank sky, four counts of 0, too. A list
+ * that is empty changes nothing. Batches that are added to one map, in however many calls, come under
+ * the same list.
  *
  * As bytes a map is rows, one for each entry: the zuniq in 8 bytes, then the count in 4 or the
  * density in 8, each little-endian, with nothing between rows. A density is handed over as its
@@ -189,9 +189,10 @@ uint64_t mom_are_overlapping(uint64_t zuniq_l, uint64_t zuniq_r);
 /* The counts of the four children of the cell (parent_depth, parent_hash) are merged where
  * parent_depth is at least depth_threshold, their chi-square is below chi2_threshold and the cell is
  * no protected parent. Four counts of 0, blank sky, are merged at any chi2_threshold, from
- * depth_threshold on, under a protected parent too. The value is then their sum, the parent's count,
- * and *chi2 is left as it was. Otherwise the answer is MOM_KEPT, and *chi2 = their chi-square: with
- * a zero among the four it is exactly their sum, and else within sum / 2^50 of the exact number.
+ * depth_threshold on, but under a protected parent, which keeps them like others. The value is then
+ * their sum, the parent's count, and *chi2 is left as it was. Otherwise the answer is MOM_KEPT, and
+ * *chi2 = their chi-square: with a zero among the four it is exactly their sum, and else within
+ * sum / 2^50 of the exact number.
  * Refuses by 1: parent_depth is over 28; then by 2: depth_threshold is over 29; then by 3:
  * chi2_threshold is a NaN; then by 15: a protected parent isn't a valid zuniq, or isn't above the one
  * before, the place is its index; then by 7: parent_hash is N(parent_depth) or more; then by 10: the
@@ -233,10 +234,10 @@ uint64_t mom_get_overlapped_cells_zuniqs(const uint64_t *zuniqs, size_t len, uin
 /* Adds cells of that depth, given by hashes and their counts in batch, to the map in the first held
  * places of zuniqs and counts. Each cell is appended; while the last four entries are the children
  * of one parent and the count merger accepts them under depth_threshold, chi2_threshold and
- * protected_parents, they are replaced by the parent: blank sky at any chi2_threshold. Cells of
- * depth 0 have no parent, and stay as they are. The value is the new number of entries and *total =
- * the sum of their counts; every place after the entries is 0. By a refusal both buffers and *total
- * are left as they were.
+ * protected_parents, they are replaced by the parent: blank sky at any chi2_threshold, but into no
+ * protected parent. Cells of depth 0 have no parent, and stay as they are. The value is the new number
+ * of entries and *total = the sum of their counts; every place after the entries is 0. By a refusal
+ * both buffers and *total are left as they were.
  * Refuses by 1: the depth is over 29; then by 2: depth_threshold is over 29; then by 3:
  * chi2_threshold is a NaN; then by 15: a protected parent isn't a valid zuniq, or isn't above the one
  * before, the place is its index; then by 4: zl isn't cl, hl isn't bl, or held is over zl; then by 5:
@@ -270,9 +271,9 @@ uint64_t mom_add_densities(uint8_t depth, uint8_t depth_threshold, double chi2_t
  * quarter of its count, and what is left over goes to them one each, from child h mod 4 on, h being
  * the hash of the cell that is split, and after child 3 from child 0 on; so on, level by level. The
  * cells are then merged by the count merger under depth_threshold, chi2_threshold and
- * protected_parents, as mom_add_counts does: blank sky at any chi2_threshold. The value is the number
- * of entries and *total = the sum of their counts; every place after the entries is 0. By a refusal
- * both buffers and *total are left as they were.
+ * protected_parents, as mom_add_counts does: blank sky at any chi2_threshold, but into no protected
+ * parent. The value is the number of entries and *total = the sum of their counts; every place after
+ * the entries is 0. By a refusal both buffers and *total are left as they were.
  * Refuses by 1: a map's depth is over 29; then by 2: depth_threshold is over 29; then by 3:
  * chi2_threshold is a NaN; then by 15: a protected parent isn't a valid zuniq, or isn't above the one
  * before, the place is its index; then by 4: lzl isn't lcl, rzl isn't rcl, or zl isn't cl; then by 5:
@@ -402,8 +403,9 @@ uint64_t mom32_get_overlapped_cells_zuniqs(const uint32_t *zuniqs, size_t len, u
 
 /* Adds cells of that depth, given by hashes and their counts in batch, to the narrow map in the first
  * held places of zuniqs and counts, as mom_add_counts does, by the same merger: blank sky is merged at
- * any chi2_threshold. The value is the new number of entries and *total = the sum of their counts;
- * every place after the entries is 0. By a refusal both buffers and *total are left as they were.
+ * any chi2_threshold, but into no protected parent. The value is the new number of entries and *total =
+ * the sum of their counts; every place after the entries is 0. By a refusal both buffers and *total are
+ * left as they were.
  * Refuses by 1: the depth is over 13; then by 2: depth_threshold is over 29 (from 13 on nothing is
  * merged); then by 3, 15, 4, 5, 7, 8, 10 and 11 as mom_add_counts does, the protected parents being
  * narrow zuniqs and the held entries a narrow map. */

@@ -579,6 +579,15 @@ static int keeps_under(uint8_t depth, uint64_t hash, size_t pl) {
                    MOM_KEPT, 0) && chi2 == 3;
 }
 
+/* Whether blank sky is kept under (0,0), with a chi-square of 0, and merged under (0,1). */
+static int keeps_blanks_under(double t) {
+    double kept = 5.5, merged = 5.5;
+    return answers(mom_chi2_count_merger(0, 0, 0, t, parents, 3, 0, 0, 0, 0, &kept), MOM_KEPT, 0) &&
+           kept == 0 && !signbit(kept) &&
+           answers(mom_chi2_count_merger(0, 1, 0, t, parents, 3, 0, 0, 0, 0, &merged), MOM_ACCEPTED,
+                   0) && merged == 5.5;
+}
+
 /* Whether both mergers refuse by this number, and leave the caller's number alone. */
 static int refuses_parent(uint8_t depth, uint64_t hash, double t, const uint64_t *list, size_t pl,
                           uint8_t number, uint64_t place) {
@@ -599,8 +608,9 @@ static void protected_mergers(void) {
     expect(merges_under(1, 3, 2) && merges_under(0, 0, 0), "a parent behind a list");
     expect(merges_under(1, 1, 3) && merges_under(2, 0, 3) && merges_under(0, 3, 3),
            "cells in and beside protected ones, and one of the same hash");
-    expect(answers(mom_chi2_count_merger(0, 0, 0, -1, parents, 3, 0, 0, 0, 0, &chi2),
-                   MOM_ACCEPTED, 0) && chi2 == 5.5, "blank sky under a protected parent");
+    expect(keeps_blanks_under(-INFINITY) && keeps_blanks_under(-1) && keeps_blanks_under(0) &&
+           keeps_blanks_under(3.5) && keeps_blanks_under(INFINITY),
+           "blank sky under a protected parent and beside it");
     expect(answers(mom_chi2_count_merger(0, 0, 1, 3.5, parents, 3, 0, 0, 0, 0, &chi2),
                    MOM_KEPT, 0) && chi2 == 0, "blank sky under a protected parent below M");
     expect(answers(mom_chi2_density_merger(0, 0, 0, 3.5, parents, 3, 16, 16, 16, 16, &answer),
@@ -624,9 +634,9 @@ static void protected_mergers(void) {
            "a parent's depth before all else");
 }
 
-/* Sixteen cells of one count at depth 2 in two calls under one list, cut behind so many; then whether
- * the entries are these zuniqs, and 0 behind them. */
-static int adds_under(uint32_t count, const uint64_t *list, size_t pl, size_t cut,
+/* Sixteen cells of one count at depth 2 and T in two calls under one list, cut behind so many; then
+ * whether the entries are these zuniqs, and 0 behind them. */
+static int adds_under(uint32_t count, double t, const uint64_t *list, size_t pl, size_t cut,
                       const uint64_t *entries, size_t number) {
     uint64_t hashes[16], zuniqs[16] = {5}, word;
     uint32_t batch[16], counts[16] = {5}, total = 5;
@@ -636,10 +646,10 @@ static int adds_under(uint32_t count, const uint64_t *list, size_t pl, size_t cu
         hashes[i] = i;
         batch[i] = count;
     }
-    word = mom_add_counts(2, 0, INFINITY, list, pl, 0, zuniqs, 16, counts, 16, hashes, cut, batch,
-                          cut, &total);
+    word = mom_add_counts(2, 0, t, list, pl, 0, zuniqs, 16, counts, 16, hashes, cut, batch, cut,
+                          &total);
     all = mom_code(word) == MOM_ACCEPTED;
-    word = mom_add_counts(2, 0, INFINITY, list, pl, (size_t)mom_value(word), zuniqs, 16, counts, 16,
+    word = mom_add_counts(2, 0, t, list, pl, (size_t)mom_value(word), zuniqs, 16, counts, 16,
                           hashes + cut, 16 - cut, batch + cut, 16 - cut, &total);
     all = all && answers(word, MOM_ACCEPTED, number) && total == 16 * count;
     for (size_t i = 0; i < 16; i++) {
@@ -653,13 +663,19 @@ static void protected_adding(void) {
     const uint64_t apart[10] = {cell,      3 * cell,  5 * cell,  7 * cell,  12 * cell,
                                 20 * cell, 25 * cell, 27 * cell, 29 * cell, 31 * cell};
     const uint64_t four[4] = {4 * cell, 12 * cell, 20 * cell, 28 * cell};
+    const double thresholds[3] = {INFINITY, 0, -INFINITY};
     int added = 1, blank = 1;
 
     for (size_t cut = 0; cut <= 16; cut++) {
-        added = added && adds_under(1, parents, 3, cut, apart, 10) &&
-                adds_under(1, base, 1, cut, four, 4) && adds_under(1, child, 1, cut, base, 1) &&
-                adds_under(1, unlisted, 0, cut, base, 1);
-        blank = blank && adds_under(0, parents, 3, cut, base, 1);
+        added = added && adds_under(1, INFINITY, parents, 3, cut, apart, 10) &&
+                adds_under(1, INFINITY, base, 1, cut, four, 4) &&
+                adds_under(1, INFINITY, child, 1, cut, base, 1) &&
+                adds_under(1, INFINITY, unlisted, 0, cut, base, 1);
+        for (size_t i = 0; i < 3; i++) {
+            blank = blank && adds_under(0, thresholds[i], parents, 3, cut, apart, 10) &&
+                    adds_under(0, thresholds[i], base, 1, cut, four, 4) &&
+                    adds_under(0, thresholds[i], child, 1, cut, base, 1);
+        }
     }
     expect(added, "sixteen cells under protected parents, cut anywhere");
     expect(blank, "sixteen blank cells under protected parents, cut anywhere");
@@ -699,6 +715,49 @@ static void protected_maps(void) {
     expect(answers(mom32_add_counts(1, 0, 3.5, narrow_base, 1, 0, narrow, 4, counts, 4, cells, 4,
                                     unlisted32, 0, &total),
                    MOM_LENGTHS_DIFFER, 0) && total == 4, "a list and a batch of two lengths");
+}
+
+/* Blank sky under (0,0), which is protected: asked for, committed, where the former figures are
+ * refused, and pooled; and added, where it takes up the space of a fifth cell. */
+static void protected_blank_maps(void) {
+    const uint64_t first = UINT64_C(1) << 56, base[1] = {UINT64_C(1) << 58}, one[1] = {3 * first};
+    const uint64_t quad[4] = {first, 3 * first, 5 * first, 7 * first}, hashes[5] = {0, 1, 2, 3, 4};
+    const uint32_t narrow_base[1] = {UINT32_C(1) << 26}, cells[5] = {0, 1, 2, 3, 4}, none[5] = {0};
+    uint64_t zuniqs[4] = {5, 5, 5, 5};
+    uint32_t narrow[4] = {5, 5, 5, 5}, counts[4] = {5, 5, 5, 5}, total = 5;
+    struct asked a = {0, 5, 5, 5, 5, 5, 5, 5, 5};
+
+    a.word = mom_ask(0, base, 1, none, 1, 1, one, 1, none, 1, 0, 0, base, 1, &a.cells, &a.entries,
+                     &a.total);
+    expect(asks(a, 4, 4, 0), "asking for blank sky under a protected parent");
+    expect(answers(mom_commit(0, base, 1, none, 1, 1, one, 1, none, 1, 0, 0, base, 1, 4, 1, 0, zuniqs,
+                              4, counts, 4, &total),
+                   MOM_FIGURES_DIFFER, 0) && zuniqs[0] == 5 && counts[3] == 5 && total == 5,
+           "committing the former figures of blank sky");
+    expect(answers(mom_commit(0, base, 1, none, 1, 1, one, 1, none, 1, 0, 0, base, 1, 4, 4, 0, zuniqs,
+                              4, counts, 4, &total),
+                   MOM_ACCEPTED, 4) && total == 0 && memcmp(zuniqs, quad, sizeof quad) == 0,
+           "committing blank sky under a protected parent");
+    expect(answers(mom_pool(0, base, 1, none, 1, 1, one, 1, none, 1, 0, 0, base, 1, zuniqs, 4, counts,
+                            4, &total),
+                   MOM_ACCEPTED, 4) && memcmp(zuniqs, quad, sizeof quad) == 0 && counts[3] == 0,
+           "a pool of blank sky under a protected parent");
+    expect(answers(mom_add_counts(1, 0, 0, base, 1, 4, zuniqs, 4, counts, 4, hashes + 4, 1, none, 1,
+                                  &total),
+                   MOM_NO_SPACE, 0) && memcmp(zuniqs, quad, sizeof quad) == 0,
+           "no space behind protected blank sky");
+    expect(answers(mom32_add_counts(1, 0, -1, narrow_base, 1, 0, narrow, 4, counts, 4, cells, 4, none,
+                                    4, &total),
+                   MOM_ACCEPTED, 4) && narrow[3] == UINT32_C(7) << 24 &&
+           answers(mom32_add_counts(1, 0, -1, narrow_base, 1, 4, narrow, 4, counts, 4, cells + 4, 1,
+                                    none, 1, &total),
+                   MOM_NO_SPACE, 0), "narrow adding of blank sky under a protected parent");
+    expect(answers(mom32_add_counts(1, 0, -1, unlisted32, 0, 0, narrow, 4, counts, 4, cells, 4, none,
+                                    4, &total),
+                   MOM_ACCEPTED, 1) &&
+           answers(mom32_add_counts(1, 0, -1, unlisted32, 0, 1, narrow, 4, counts, 4, cells + 4, 1,
+                                    none, 1, &total),
+                   MOM_ACCEPTED, 2), "narrow adding of blank sky under no list");
 }
 
 /* A list is looked at after T, and refused before lengths are looked at, by its index; and nothing is
@@ -1445,6 +1504,7 @@ int main(void) {
     protected_mergers();
     protected_adding();
     protected_maps();
+    protected_blank_maps();
     refused_lists();
     narrow_cells();
     narrow_rows();

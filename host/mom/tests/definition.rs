@@ -2,7 +2,7 @@
 //! scope's section 1; every list of blank cells in a base cell against the defined map of section 4.
 //! All are written here as they are read there.
 
-use mom::{add_counts, are_overlapping, from_zuniq, to_zuniq};
+use mom::{add_counts, are_overlapping, from_zuniq, to_zuniq, Added};
 
 type Cell = (u8, u64);
 
@@ -80,37 +80,55 @@ fn no_small_number_of_another_form_decodes() {
 }
 
 /// "A cell is whole if it is in the list, or its four children are whole and the merger accepts their
-/// values." Of blanks it accepts all, from M on. The list is of cells of depth 2, by bits.
-fn is_whole((d, h): Cell, list: u32, m: u8) -> bool {
+/// values." Of blanks it accepts all, from M on, but those of a protected parent. The list is of cells of
+/// depth 2, by bits.
+fn is_whole((d, h): Cell, list: u32, m: u8, protected: &[Cell]) -> bool {
+    let is_child_whole = |child| is_whole((d + 1, 4 * h + child), list, m, protected);
     match d {
         2 => list >> h & 1 == 1,
-        _ => d >= m && (0..4).all(|child| is_whole((d + 1, 4 * h + child), list, m)),
+        _ => d >= m && !protected.contains(&(d, h)) && (0..4).all(is_child_whole),
     }
 }
 
 /// "The map is all whole cells whose parent isn't whole, rising by zuniq. Depth-0 cells have no parent."
-fn defined_map(list: u32, m: u8) -> Vec<u64> {
+fn defined_map(list: u32, m: u8, protected: &[Cell]) -> Vec<u64> {
     let cells = (0..=2).flat_map(|d| (0..4u64.pow(d as u32)).map(move |h| (d, h)));
     let is_entry = |&(d, h): &Cell| {
-        let in_another = d > 0 && is_whole((d - 1, h / 4), list, m);
-        is_whole((d, h), list, m) && !in_another
+        let in_another = d > 0 && is_whole((d - 1, h / 4), list, m, protected);
+        is_whole((d, h), list, m, protected) && !in_another
     };
     let mut zuniqs: Vec<u64> = cells.filter(is_entry).map(zuniq).collect();
     zuniqs.sort();
     zuniqs
 }
 
-/// Every list of cells in the first base cell, at a T that the chi of blanks is not below.
+/// The first base cell and some of its children, rising by zuniq, as lists of protected parents.
+const PROTECTED: [&[Cell]; 5] = [
+    &[],
+    &[(0, 0)],
+    &[(1, 0)],
+    &[(1, 1), (1, 3)],
+    &[(1, 0), (0, 0), (1, 2)],
+];
+
+/// Every list of cells in the first base cell, at a T that the chi of blanks is not below; each with no protected
+/// parents and with some.
 #[test]
 fn no_list_of_blank_cells_is_built_into_another_map() {
     for list in 0..1 << 16 {
         let hashes: Vec<u64> = (0..16).filter(|h| list >> h & 1 == 1).collect();
-        for m in 0..=2 {
-            let (mut z, mut n) = ([7; 16], [7; 16]);
-            let batch = &[0; 16][..hashes.len()];
-            let added = add_counts(2, m, 0.0, &[], 0, &mut z, &mut n, &hashes, batch).unwrap();
-            assert_eq!(z[..added.entries], defined_map(list, m), "{hashes:?} {m}");
-            assert_eq!((added.total, n), (0, [0; 16]));
+        for protected in [PROTECTED[0], PROTECTED[1 + list as usize % 4]] {
+            let parents: Vec<u64> = protected.iter().map(|&cell| zuniq(cell)).collect();
+            for m in 0..=2 {
+                let (mut z, mut n) = ([7; 16], [7; 16]);
+                let (places, counts) = (&mut z, &mut n);
+                let batch = &[0; 16][..hashes.len()];
+                let added = add_counts(2, m, 0.0, &parents, 0, places, counts, &hashes, batch);
+                let Added { entries, total } = added.unwrap();
+                let defined = defined_map(list, m, protected);
+                assert_eq!(z[..entries], defined, "{hashes:?} {protected:?} {m}");
+                assert_eq!((total, n), (0, [0; 16]));
+            }
         }
     }
 }
