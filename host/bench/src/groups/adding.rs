@@ -5,8 +5,9 @@
 //! vector anew each time. In the row called `fresh` ours is lent buffers that are made within the
 //! time, too.
 //!
-//! Under a list of protected parents the original's merger stands behind a `binary_search` in it; with an
-//! empty list there is nothing to search, and the work is that of the rows without one.
+//! Under a list of protected parents the original's merger stands behind a `binary_search` in it, and so does
+//! the test of blank quads; with an empty list there is nothing to search, and the work is that of the rows
+//! without one.
 
 use std::time::Duration;
 
@@ -44,8 +45,9 @@ pub fn run(plan: Plan) {
         depth + 1
     );
     counts(plan, &work, &quarter, CHI2, &[]);
+    let blank = blank_sky(depth);
     let work = format!("add counts, blank sky (nine cells of ten 0), all of depth {depth}, T 0");
-    counts(plan, &work, &blank_sky(depth), 0.0, &[]);
+    counts(plan, &work, &blank, 0.0, &[]);
     for (name, chi2_threshold) in THRESHOLDS {
         let work = format!("add densities, all of depth {depth}, T {name}");
         add_densities(plan, &work, &densities(&all), chi2_threshold);
@@ -58,6 +60,9 @@ pub fn run(plan: Plan) {
         let work = format!("add counts, T 7.815, {} protected", list.len());
         counts(plan, &work, &cells, CHI2, &list);
     }
+    let list = parents_of(blank.cells(), plan.smaller(1_000));
+    let work = format!("add counts, blank sky, T 0, {} protected", list.len());
+    counts(plan, &work, &blank, 0.0, &list);
     heading("Adding in batches, and into fresh buffers", "cell", "cells");
     fresh_counts(plan, "add counts, T 7.815, fresh", &all);
     for batches in [10, 1000] {
