@@ -26,42 +26,37 @@ fn with_total(line: Line, counts: &[u32]) -> Line {
 
 /// Sixteen cells of depth 2, blank but for the one given, where there is one: at M and T, with so many
 /// of them held.
-const BLANK: [(u8, f64, Option<u64>, usize); 3] = [
+type Blank = (u8, f64, Option<u64>, usize);
+
+const BLANK: [Blank; 3] = [
     (0, -1.0, None, 5),
     (1, f64::NEG_INFINITY, None, 11),
     (0, 0.0, Some(5), 6),
 ];
 
-/// The same under protected parents: one with blank cells before and behind it; one whose quad is held; the
-/// base cell; one beside the source; and one above M beside one below it.
-const PROTECTED_BLANK: [(u8, f64, Option<u64>, usize, &[(u8, u64)]); 5] = [
-    (0, -1.0, None, 5, &[(1, 1)]),
-    (0, 0.0, None, 10, &[(1, 0)]),
-    (0, f64::INFINITY, None, 15, &[(0, 0)]),
-    (0, 0.0, Some(5), 6, &[(1, 3), (2, 0)]),
-    (1, f64::NEG_INFINITY, None, 11, &[(1, 2), (0, 0)]),
+/// The same under protected parents: one with blank sky before and behind it; one whose children are held; the
+/// base cell; one beside the source; and one of depth M beside one of less.
+const PROTECTED_BLANK: [(Blank, &[(u8, u64)]); 5] = [
+    ((0, -1.0, None, 5), &[(1, 1)]),
+    ((0, 0.0, None, 10), &[(1, 0)]),
+    ((0, f64::INFINITY, None, 15), &[(0, 0)]),
+    ((0, 0.0, Some(5), 6), &[(1, 3), (2, 0)]),
+    ((1, f64::NEG_INFINITY, None, 11), &[(1, 2), (0, 0)]),
 ];
 
 pub fn print_blank<Z: Width + Number>() {
-    for (m, t, source, cut) in BLANK {
-        blank::<Z>(m, t, source, cut, &[]).line(with_total).print();
+    for cells in BLANK {
+        blank::<Z>(cells, &[]).line(with_total).print();
     }
 }
 
 pub fn print_protected_blank<Z: Width + Number>() {
-    for (m, t, source, cut, protected) in PROTECTED_BLANK {
-        let list = blank::<Z>(m, t, source, cut, protected);
-        list.line(with_total).print();
+    for (cells, protected) in PROTECTED_BLANK {
+        blank::<Z>(cells, protected).line(with_total).print();
     }
 }
 
-fn blank<Z: Width>(
-    m: u8,
-    t: f64,
-    source: Option<u64>,
-    cut: usize,
-    protected: &[(u8, u64)],
-) -> List<u32, Z> {
+fn blank<Z: Width>((m, t, source, cut): Blank, protected: &[(u8, u64)]) -> List<u32, Z> {
     let count = |hash| u32::from(Some(hash) == source);
     let protected = protected.iter().map(|&(depth, hash)| Cell { depth, hash });
     List {

@@ -36,19 +36,16 @@ pub fn print_blank() {
 /// The same under protected parents, asked for and committed too: the base cell; the smaller cell's parent, from
 /// M on and below it; a cell between them, beside one that lies in it; and the smaller cell, which has no children.
 pub fn print_protected_blank() {
-    let lists: [(u8, (u8, u64), f64, &[(u8, u64)]); 6] = [
-        (0, (1, 1), f64::NEG_INFINITY, &[(0, 0)]),
+    for (m, cell, t, list) in [
+        (0, (1, 1), f64::NEG_INFINITY, &[(0, 0)][..]),
         (0, (1, 1), f64::INFINITY, &[(0, 0)]),
         (0, (2, 6), -1.0, &[(1, 1)]),
         (2, (2, 6), 0.0, &[(1, 1)]),
         (0, (3, 37), 0.0, &[(2, 8), (1, 2)]),
         (0, (1, 1), 0.0, &[(1, 1)]),
-    ];
-    for (m, cell, t, list) in lists {
-        let list: Vec<Cell> = list
-            .iter()
-            .map(|&(depth, hash)| Cell { depth, hash })
-            .collect();
+    ] {
+        let list = list.iter().map(|&(depth, hash)| Cell { depth, hash });
+        let list: Vec<Cell> = list.collect();
         let input = blank(m, cell, t, &list);
         print_pair(&input, with_total);
         let pooled = input.asked().expect("two valid maps");
