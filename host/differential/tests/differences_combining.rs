@@ -364,8 +364,8 @@ fn the_ask_and_the_commit_refuse_what_the_pool_refuses() {
     }
 }
 
-/// Of blank sky, and under a listed parent: the original's own pool has another number of entries. Of blank sky
-/// under a listed parent it has as many, and a commit is refused that counts on their being merged.
+/// Of blank sky, and under a listed parent: the original's own pool has another number of entries. Of both
+/// at once it has as many, and a commit is refused that counts on their being merged.
 #[test]
 fn the_ask_counts_entries_as_the_pool_merges_them() {
     let (four, base) = (entries(&FOUR), entries(&[(0, 0, 4)]));

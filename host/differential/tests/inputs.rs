@@ -791,7 +791,9 @@ const BLANK_STEPS: &[Class<Step<u32>>] = &[
     ("as far as M", |step| {
         step.merges_blanks(|cell| cell.depth == step.depth_threshold && cell.depth > 0)
     }),
-    ("blanks kept below M", |step| step.keeps_four(0)),
+    ("blanks kept below M", |step| {
+        step.protected.is_empty() && step.keeps_four(0)
+    }),
 ];
 
 const MORE_BLANK_STEPS: &[Class<Step<u32>>] = &[

@@ -355,7 +355,9 @@ const BLANK_POOLS: &[Class<u32>] = &[
     ("beside a source", |pair| {
         pair.merges_blanks(|_, _| pair.entries().iter().any(|&(_, count)| count > 0))
     }),
-    ("kept below M", |pair| pair.keeps_blanks()),
+    ("kept below M", |pair| {
+        pair.input.protected.is_empty() && pair.keeps_blanks()
+    }),
 ];
 
 /// Blank sky under a list (note 11), which the small pairs reach too.

@@ -379,23 +379,24 @@ fn no_wrong_protection_is_missed() {
 /// What is refused where 11 is judged as if the held map had its blank quads merged.
 fn refused_by_former_map<Z: Width>(call: &Arguments<u32, Z>) -> Option<Refusal> {
     let refusal = call.refusal()?;
+    if refusal != Refusal::NoSpace {
+        return Some(refusal);
+    }
     let unlisted = Arguments {
         protected: &[],
         zuniqs: &mut [],
         values: &mut [],
         ..*call
     };
-    let held = call.zuniqs.iter().zip(call.values.iter()).take(call.held);
     let mut map = Vec::new();
-    for (&zuniq, &count) in held.filter(|_| refusal.number() == 11) {
+    for (&zuniq, &count) in call.zuniqs.iter().zip(&*call.values).take(call.held) {
         map.push((Cell::of_zuniq(zuniq).expect("a valid map"), count));
         while let Some((parent, 0)) = Program::right(sum).parent(&map, &unlisted) {
             map.truncate(map.len() - 4);
             map.push((parent, 0));
         }
     }
-    let fits = map.len() + call.hashes.len() <= call.zuniqs.len();
-    (refusal.number() != 11 || !fits).then_some(refusal)
+    (map.len() + call.hashes.len() > call.zuniqs.len()).then_some(refusal)
 }
 
 /// What a narrow call answers that takes depths up to 29: where nothing else is refused, that the map

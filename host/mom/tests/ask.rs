@@ -311,8 +311,8 @@ fn no_gap_and_no_protected_parent_is_overlooked() {
     }
 }
 
-/// From M on blank sky is merged at any T but into a protected parent, and below M never. A commit that counts on
-/// the list's keeping none of it, as before note 11, is refused.
+/// From M on blank sky is merged at any T but into a protected parent, and below M never. A commit that
+/// counts on the list's keeping none of it, as before note 11, is refused.
 #[test]
 fn no_blank_sky_is_counted_apart_but_below_m_and_under_a_protected_parent() {
     let blanks: Vec<Entry> = (0..16).map(|hash| (2, hash, 0)).collect();

@@ -111,8 +111,8 @@ const PROTECTED: [&[Cell]; 5] = [
     &[(1, 0), (0, 0), (1, 2)],
 ];
 
-/// Every list of cells in the first base cell, at a T that the chi of blanks is not below; each with no protected
-/// parents and with some.
+/// Every list of cells in the first base cell, at a T that the chi of blanks is not below; each with no
+/// protected parents and with some.
 #[test]
 fn no_list_of_blank_cells_is_built_into_another_map() {
     for list in 0..1 << 16 {

@@ -114,7 +114,7 @@ const THRESHOLDS: [f64; 12] = [
     f64::NEG_INFINITY,
 ];
 
-/// "Four siblings of count 0 now merge at any T, where the parent depth is at least M." No list keeps them here.
+/// "Four siblings of count 0 now merge at any T, where the parent depth is at least M." There is no list.
 #[test]
 fn no_threshold_keeps_four_blanks_from_m_on() {
     for t in THRESHOLDS {

@@ -571,8 +571,8 @@ fn no_entry_lies_over_the_children_of_a_protected_parent() {
 /// Of either sign, at 0 and far from it.
 const THRESHOLDS: [f64; 6] = [0.0, -1.0, f64::NEG_INFINITY, 5e-324, 3.5, INFINITY];
 
-/// "Protection now comes first": at any T and M, with a chi of +0. Another parent has its blank sky merged, from
-/// M on.
+/// "Protection now comes first": at any T and M, with a chi of +0. Another parent has its blank sky merged,
+/// from M on.
 #[test]
 fn no_threshold_merges_blank_sky_into_a_protected_parent_and_none_keeps_it_from_another() {
     for t in THRESHOLDS {
@@ -635,8 +635,8 @@ fn no_blank_sky_beside_a_source_is_merged_or_kept_against_a_list() {
     assert_built((2, 0, INFINITY), &[(0, 0)], &cells, &four);
 }
 
-/// A blank entry that is split, and blank quads of one map or both: under a list with their parent, and under
-/// one with what lies in it.
+/// A blank entry that is split, and blank quads of one map or both: under a list with their parent, and
+/// under one with what lies in it.
 #[test]
 fn no_pool_merges_blank_sky_into_a_protected_parent_and_none_keeps_it_from_another() {
     let base = [zuniq((0, 0))];
@@ -709,7 +709,7 @@ fn add_twice<Z: Copy + Debug + From<u8> + PartialEq>(
     [first, second]
 }
 
-/// "Calls handed the longer map judge by it": merged, the four leave the two cells space, and kept they do not.
+/// "Calls handed the longer map judge by it": the four leave the two cells space where they are merged.
 #[test]
 fn no_space_is_counted_on_that_protected_blank_sky_takes_up() {
     let added = |entries, total| Ok(Added { entries, total });

@@ -1,4 +1,5 @@
-//! Wrong readings of note 11 of 02, for all tests of wrong programs: of what becomes of blank sky under a list.
+//! Wrong readings of note 11 of 02, for all tests of wrong programs: of what becomes of blank sky under a
+//! list.
 
 /// What decides whether four siblings are merged.
 #[derive(Clone, Copy)]

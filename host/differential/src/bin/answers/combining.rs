@@ -33,8 +33,8 @@ pub fn print_blank() {
     }
 }
 
-/// The same under protected parents, asked for and committed too: the base cell; the smaller cell's parent, from
-/// M on and below it; a cell between them, beside one that lies in it; and the smaller cell, which has no children.
+/// The same under protected parents, asked for and committed too: the base cell; the smaller cell's parent,
+/// from M on and below it; a cell between them, beside one that lies in it; and the smaller cell itself.
 pub fn print_protected_blank() {
     for (m, cell, t, list) in [
         (0, (1, 1), f64::NEG_INFINITY, &[(0, 0)][..]),
