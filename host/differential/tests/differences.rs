@@ -195,8 +195,8 @@ fn the_count_merger_refuses_a_sum_that_overflows_of_counts_that_are_kept() {
 /// T of 0 or less.
 const NOT_ABOVE_0: [f64; 5] = [0.0, -0.0, -5e-324, -1.0, f64::NEG_INFINITY];
 
-/// Their chi is 0, and the original merges what is below T. Where one of them isn't blank, and below
-/// M, ours keeps them too.
+/// Their chi is 0, and the original merges what is below T. Where one of them isn't blank, below M, and
+/// under a listed parent, ours keeps them too.
 #[test]
 fn the_count_merger_merges_four_blanks_at_a_threshold_of_0_or_less() {
     for t in NOT_ABOVE_0 {
@@ -207,6 +207,11 @@ fn the_count_merger_merges_four_blanks_at_a_threshold_of_0_or_less() {
             assert_eq!(run::merge_counts_by_chi(0, m, t, counts), None);
             let ours = count_merger(0, m, t, counts);
             assert_eq!(ours, Ok(CountMerge::Kept(chi)));
+        }
+        let list = zuniqs([(0, 1)]);
+        for (hash, answer) in [(1, CountMerge::Kept(0.0)), (2, CountMerge::Merged(0))] {
+            let ours = mom::chi2_count_merger(0, hash, 0, t, &list, [0; 4]);
+            assert_eq!(ours, Ok(answer));
         }
     }
 }
@@ -229,21 +234,6 @@ fn the_mergers_keep_four_under_a_listed_parent() {
         assert_eq!(merged, Some(m));
         let ours = mom::chi2_density_merger(parent, hash, 0, t, &list, [m; 4]);
         assert_eq!(ours, Ok(DensityMerge::Kept(0.0)));
-    }
-}
-
-/// No difference: the original keeps blanks at such a T, and ours does where their parent is listed.
-#[test]
-fn the_count_merger_keeps_four_blanks_under_a_listed_parent_as_the_original_does() {
-    let list = zuniqs([(28, 5), (0, 0)]);
-    for t in NOT_ABOVE_0 {
-        for (parent, hash) in [(0, 0), (28, 5)] {
-            assert_eq!(run::merge_counts_by_chi(parent, 0, t, [0; 4]), None);
-            let ours = mom::chi2_count_merger(parent, hash, 0, t, &list, [0; 4]);
-            assert_eq!(ours, Ok(CountMerge::Kept(0.0)));
-            let ours = mom::chi2_count_merger(parent, hash + 1, 0, t, &list, [0; 4]);
-            assert_eq!(ours, Ok(CountMerge::Merged(0)));
-        }
     }
 }
 
