@@ -1,5 +1,5 @@
-//! What note 4 leaves as it was: wherever T is above 0, and wherever one of four is not blank, ours
-//! answers as the original with its own merger does.
+//! What note 4 leaves as it was, where there is no list: wherever T is above 0, and wherever one of four is
+//! not blank, ours answers as the original with its own merger does.
 
 use differential::{
     compare::Kind,
