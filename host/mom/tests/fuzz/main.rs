@@ -161,7 +161,7 @@ fn mergers() {
     });
     assert_some("mergers", "blank sky merged", merged);
     assert_some("mergers", "blank sky kept below M", below);
-    assert_some("mergers", "blank sky kept by the list", kept[0]);
+    assert_some("mergers", "blank sky kept by the list, T above 0", kept[0]);
     assert_some("mergers", "blank sky kept by the list, T up to 0", kept[1]);
     let what = "blank sky merged beside a list that does not have its parent";
     assert_some("mergers", what, beside);
