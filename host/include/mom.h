@@ -189,10 +189,10 @@ uint64_t mom_are_overlapping(uint64_t zuniq_l, uint64_t zuniq_r);
 /* The counts of the four children of the cell (parent_depth, parent_hash) are merged where
  * parent_depth is at least depth_threshold, their chi-square is below chi2_threshold and the cell is
  * no protected parent. Four counts of 0, blank sky, are merged at any chi2_threshold, from
- * depth_threshold on, but under a protected parent, which keeps them like others. The value is then
- * their sum, the parent's count, and *chi2 is left as it was. Otherwise the answer is MOM_KEPT, and
- * *chi2 = their chi-square: with a zero among the four it is exactly their sum, and else within
- * sum / 2^50 of the exact number.
+ * depth_threshold on, where the cell is no protected parent. The value is then their sum, the
+ * parent's count, and *chi2 is left as it was. Otherwise the answer is MOM_KEPT, and *chi2 = their
+ * chi-square: with a zero among the four it is exactly their sum, and else within sum / 2^50 of the
+ * exact number.
  * Refuses by 1: parent_depth is over 28; then by 2: depth_threshold is over 29; then by 3:
  * chi2_threshold is a NaN; then by 15: a protected parent isn't a valid zuniq, or isn't above the one
  * before, the place is its index; then by 7: parent_hash is N(parent_depth) or more; then by 10: the

@@ -16,7 +16,7 @@
 // - Any other has the numbers that the original Rust answered behind the arguments.
 //
 // Unreadable is a line with an unknown word or a foreign byte, with an argument too few or too large
-// for its field, or without LF. An input of 262,144 bytes or more is not replayed at all.
+// for its field, or without LF. An input of 327,680 bytes or more is not replayed at all.
 ghost use Prim.Native.Nat.{_≤_};
 ghost use lib.ListN.{length};
 
@@ -57,7 +57,7 @@ use line::read;
 use print::print_answer;
 use tally::Tally;
 
-// The input has some 265,000 bytes.
+// The input has some 277,000 bytes.
 const MAX_INPUT: usize = 327_680;
 
 fn main() {

@@ -146,9 +146,9 @@ pub fn are_overlapping(zuniq_l: u64, zuniq_r: u64) -> Result<bool, Refusal> {
 
 /// The counts of the four children of a cell, merged where `parent_depth` is at least `depth_threshold`,
 /// their chi-square is below `chi2_threshold` and the cell isn't in `protected`. Four counts of 0, blank
-/// sky, are merged at any `chi2_threshold`, from `depth_threshold` on, but under a protected parent, which
-/// keeps them like others. The chi-square of those that are kept is exactly their sum where a zero is among
-/// them, and else within their sum / 2^50 of the exact number (the example `chi_error` tries it).
+/// sky, are merged at any `chi2_threshold`, from `depth_threshold` on, where the cell isn't in `protected`.
+/// The chi-square of those that are kept is exactly their sum where a zero is among them, and else within
+/// their sum / 2^50 of the exact number (the example `chi_error` tries it).
 /// Refused by 1: the parent depth is over 28; then by 2: the depth threshold is over 29; then by 3: the
 /// chi-square threshold is a NaN; then by 15: a protected parent is not a valid zuniq, or not above the
 /// one before, the place is its index; then by 7: the parent hash is N(parent depth) or more; then by
