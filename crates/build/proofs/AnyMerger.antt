@@ -1,6 +1,6 @@
 -- How a defined map hangs on its merger: on what that makes of four whole children, and on nothing else; what a parent whose children it
 -- always keeps leaves apart; and that who merges less has the longer map. Over any type of values. Assumes nothing.
-use mathlib.Core.Path.{_≡_, refl, ap, ap₂, sym, _∙_}
+use mathlib.Core.Path.{_≡_, refl, ap, ap₂, sym, _∙_, subst}
 use mathlib.Core.Bool.{Bool, true, false, cond}
 use mathlib.Core.List.{List, [], _∷_, _++_}
 use mathlib.Core.Logic.{_↔_, ⊎-elim}
@@ -10,14 +10,16 @@ use native.Mathlib.Omega.{arith}
 use native.Mathlib.Nat.{eq-or-lt-of-le, le-of-suc-le-suc}
 use lib.ListN.{length, length-append}
 use Rattle.refusal.specs.Checks.{orElse}
-use Rattle.zuniq.specs.Cells.{liesIn}
+use Rattle.zuniq.specs.Cells.{nHash, liesIn, start}
 use Rattle.zuniq.proofs.Basics.{le-or-lt}
-use Rattle.zuniq.proofs.Ranges.{lies-in-iff, lies-in-self, lies-in-same-depth, lies-in-trans, child-lies-in-parent, lies-in-iff-some-child}
+use Rattle.zuniq.proofs.Ranges.{lies-in-iff, lies-in-self, lies-in-same-depth, lies-in-through, lies-in-trans, child-lies-in-parent, lies-in-iff-some-child, lies-in-iff-in-range, start-lt-end}
 use Rattle.build.specs.Map.{Entry, entry, isCell, Merger, joined, listed, itselfOr, merged, whole, tops, definedMap}
 use Rattle.build.specs.Promises.{Has, LiesIn, Rises, WholeChildren}
-use Rattle.build.proofs.Entries.{below-four, joined-ext}
-use Rattle.build.proofs.Whole.{listed-has, Whole, by-list, by-merging, whole-is, is-whole, whole-listed, listed-has-no-whole}
+use Rattle.build.proofs.Entries.{below-four, joined-ext, any-of-has, has-of-any}
+use Rattle.build.proofs.Whole.{listed-has, listed-of-has, Whole, by-list, by-merging, whole-is, is-whole, whole-listed, whole-merged, whole-has-listed, listed-has-no-whole}
+use Rattle.build.proofs.Rising.{rises-has}
 use Rattle.build.proofs.Tops.{defined-map-has}
+use Rattle.build.proofs.DefinedMap.{defined-map-covers}
 
 -- ---- two mergers
 -- Both make the same of any four whole children.
@@ -190,3 +192,48 @@ module _ {A : Type 0} (f g : Merger A) (l : List (Entry A)) (within : (d h : ℕ
   pub map-longer : (D : ℕ) → length (definedMap g D l) ≤ length (definedMap f D l)
   unfolding definedMap
   map-longer D = joined-longer 12 _ _ (λ h. tops-longer D 0 h)
+
+-- ---- a parent that one merger keeps and another swallows
+module _ {A : Type 0} (f g : Merger A) (within : (d h : ℕ) (a b c e x : A) → f d h a b c e ≡ some x → g d h a b c e ≡ some x) (D : ℕ) (l : List (Entry A)) (rises : Rises D 0 (nHash D) l)
+    (p q : ℕ) (v0 v1 v2 v3 x : A) (four : WholeChildren f D l p q v0 v1 v2 v3) (keeps : (a b c e : A) → f p q a b c e ≡ none) (swallows : g p q v0 v1 v2 v3 ≡ some x) where
+  first-child : Whole f l (D - suc p) (suc p) (4 * q + 0) v0
+  first-child = whole-is f l _ _ _ _ (four .0)
+
+  -- No listed cell lies at or above it.
+  none-given : (c : Entry A) → Has l c → LiesIn p q c → ⊥
+  none-given c m t =
+      listed-has-no-whole f l D 0 (nHash D) rises (c .depth) (c .hash) (c .value) (D - suc p) (suc p) (4 * q + 0) v0 (listed-of-has D 0 (nHash D) l c rises m) first-child
+      (lies-in-trans (suc p) (4 * q + 0) p q (c .depth) (c .hash) (child-lies-in-parent p q 0 (omega arith)) t) (omega (arith, lies-in-iff p q (c .depth) (c .hash) .0 t .0))
+
+  -- By g it is whole.
+  swallowed : suc p ≤ D → whole g l (D - p) p q ≡ some x
+  swallowed u =
+      let z : D - p ≡ suc (D - suc p) = omega arith in
+      let w : (k : ℕ) (v : A) → whole f l (D - suc p) (suc p) k ≡ some v → whole g l (D - suc p) (suc p) k ≡ some v = λ k v s. is-whole g l _ _ _ v (whole-within f g l within _ _ _ v (whole-is f l _ _ _ v s)) in
+      rw z (go (listed l p q) refl ∙ rw (w _ v0 (four .0), w _ v1 (four .1), w _ v2 (four .2), w _ v3 (four .3)) swallows)
+    where
+      go : (o : Option A) → listed l p q ≡ o
+          → whole g l (suc (D - suc p)) p q ≡ merged g p q (whole g l (D - suc p) (suc p) (4 * q + 0)) (whole g l (D - suc p) (suc p) (4 * q + 1)) (whole g l (D - suc p) (suc p) (4 * q + 2)) (whole g l (D - suc p) (suc p) (4 * q + 3))
+      go none s = whole-merged g l (D - suc p) p q s
+      go (some y) s = absurd (none-given (entry p q y) (listed-has l p q y s) (lies-in-self p q))
+
+  -- An entry of both maps does not meet it: at or above it the one has none, and inside it the other.
+  no-entry : (k : ℕ) (e : Entry A) → liesIn D k p q ≡ true → LiesIn D k e → suc p ≤ D → Has (definedMap f D l) e → Has (definedMap g D l) e → ⊥
+  no-entry k e in-p in-e u m n = ⊎-elim
+      (λ above. let b = entry-above-kept f l p q keeps D e m (sym (lies-in-through D k p q (e .depth) (e .hash) in-p above) ∙ in-e) in none-given (b .cell) (b .has) (b .above))
+      (λ below. defined-map-has g D l e .0 n .2 .above p q (omega arith) below (sym (lies-in-through D k (e .depth) (e .hash) p q in-e (omega (arith, below))) ∙ in-p) x (swallowed u))
+      (le-or-lt (e .depth) p)
+
+  -- So the two maps differ: that of g has an entry which does.
+  pub maps-differ : definedMap f D l ≡ definedMap g D l → ⊥
+  maps-differ same =
+      let r = whole-has-listed f l _ _ _ v0 first-child in
+      differ (r .0) (r .1) (r .2) (rises-has D 0 (nHash D) l (r .0) rises (r .1) .0)
+    where
+      differ : (c : Entry A) → Has l c → liesIn (c .depth) (c .hash) (suc p) (4 * q + 0) ≡ true → c .depth ≤ D → ⊥
+      differ c m t deep =
+          let k = start D (c .depth) (c .hash) in
+          let in-c : LiesIn D k c = lies-in-iff-in-range D k (c .depth) (c .hash) deep .1 (omega arith, start-lt-end D (c .depth) (c .hash)) in
+          let in-p = lies-in-trans D k (suc p) (4 * q + 0) p q (lies-in-trans D k (c .depth) (c .hash) (suc p) (4 * q + 0) in-c t) (child-lies-in-parent p q 0 (omega arith)) in
+          let e = has-of-any (LiesIn D k) (definedMap g D l) (defined-map-covers g D l rises D k (omega arith) .1 (any-of-has (LiesIn D k) l c m in-c)) in
+          no-entry k (e .0) in-p (e .2) (omega (arith, deep, lies-in-iff (c .depth) (c .hash) (suc p) (4 * q + 0) .0 t .0)) (subst (λ (l : List (Entry A)). Has l (e .0)) (sym same) (e .1)) (e .1)

@@ -25,7 +25,7 @@ use Rattle.build.specs.Promises.{Rises, WholeChildren}
 use Rattle.build.specs.Calls.{Buffers, Batch, Answer, Calls, cells, addCalls, joinedCells, joinedMap, judge, joinBy, joinCalls, left}
 use Rattle.build.specs.Counts.{Report, countsAdded, countCalls}
 use Rattle.build.specs.declared.counts.CountsAdded.{CountsAdded}
-use Rattle.build.proofs.AnyMerger.{Alike, map-alike, children-alike, alike-before, map-longer}
+use Rattle.build.proofs.AnyMerger.{Alike, map-alike, children-alike, alike-before, map-longer, maps-differ}
 use Rattle.build.proofs.Calls.{Sound, joining, calls-do-as-joined, joined-batches-rise}
 use Rattle.build.proofs.Sound.{count-calls-sound}
 use Rattle.combine.specs.Rules.{combined, definedPool}
@@ -38,6 +38,10 @@ use Rattle.claims.proofs.Demand3.{as-due}
 
 -- ---- the merger
 module _ (K : ℕ) (P : List ℕ) (M : ℕ) (T : Float) (p h : ℕ) where
+  blank-was-accepted : M ≤ p → acceptBlankFirst K P M T p h 0 0 0 0 ≡ some 0
+  unfolding mergeBlankFirst acceptBlankFirst mergedCount
+  blank-was-accepted l = rw (le-leb M p l)
+
   -- "from parent depth M on, four zero counts with a listed parent were merged and now stay", with their chi, 0.
   pub blank-was-merged : M ≤ p → isProtected K P p h ≡ true → (mergeBlankFirst K P M T p h 0 0 0 0 ≡ CountMerge.Merged 0) × (mergeCounts K P M T p h 0 0 0 0 ≡ CountMerge.Kept 0·0)
   unfolding mergeBlankFirst
@@ -98,7 +102,14 @@ module _ (K : ℕ) (P : List ℕ) (M : ℕ) (T : Float) (D : ℕ) (l : List (Ent
   pub map-as-before : NoBlankProtected K P M (acceptCounts K P M T) D l → definedMap (acceptCounts K P M T) D l ≡ definedMap (acceptBlankFirst K P M T) D l
   map-as-before free = map-alike (acceptCounts K P M T) (acceptBlankFirst K P M T) D l (alike free)
 
-  -- Any other gives "the longer map", or one as long.
+  -- And, over cells that rise, no other list does.
+  pub map-differs : Rises D 0 (nHash D) l → (d h : ℕ) → M ≤ d → isProtected K P d h ≡ true → WholeChildren (acceptCounts K P M T) D l d h 0 0 0 0
+      → definedMap (acceptCounts K P M T) D l ≡ definedMap (acceptBlankFirst K P M T) D l → ⊥
+  map-differs rises d h u e w =
+      maps-differ (acceptCounts K P M T) (acceptBlankFirst K P M T) (λ d h n0 n1 n2 n3 n a. was-accepted K P M T d h n0 n1 n2 n3 n a) D l rises d h 0 0 0 0 0 w
+      (λ n0 n1 n2 n3. protected-accepts-no-count K P M T d h n0 n1 n2 n3 e) (blank-was-accepted K P M T d h u)
+
+  -- Any gives "the longer map", or one as long.
   pub map-no-shorter : length (definedMap (acceptBlankFirst K P M T) D l) ≤ length (definedMap (acceptCounts K P M T) D l)
   map-no-shorter = map-longer (acceptCounts K P M T) (acceptBlankFirst K P M T) l (λ d h n0 n1 n2 n3 n a. was-accepted K P M T d h n0 n1 n2 n3 n a) D
 
