@@ -1,5 +1,6 @@
 -- How a defined map hangs on its merger: on what that makes of four whole children, and on nothing else; what a parent whose children it
--- always keeps leaves apart; and that who merges less has the longer map. Over any type of values. Assumes nothing.
+-- always keeps leaves apart; and that who merges less has the longer map, and another one where he keeps what would be swallowed. Over any
+-- type of values. Assumes nothing.
 use mathlib.Core.Path.{_≡_, refl, ap, ap₂, sym, _∙_, subst}
 use mathlib.Core.Bool.{Bool, true, false, cond}
 use mathlib.Core.List.{List, [], _∷_, _++_}
@@ -151,7 +152,11 @@ unfolding joined
 joined-longer zero k m le = omega arith
 joined-longer (suc n) k m le = omega (arith, joined-longer n k m le, le n, length-append (joined n k) (k n), length-append (joined n m) (m n))
 
-module _ {A : Type 0} (f g : Merger A) (l : List (Entry A)) (within : (d h : ℕ) (a b c e x : A) → f d h a b c e ≡ some x → g d h a b c e ≡ some x) where
+-- What f merges g merges, to the same value.
+abbrev pub Within : {A : Type 0} → (f g : Merger A) → Type 0
+Within {A} f g = (d h : ℕ) (a b c e x : A) → f d h a b c e ≡ some x → g d h a b c e ≡ some x
+
+module _ {A : Type 0} (f g : Merger A) (l : List (Entry A)) (within : Within f g) where
   -- What f has whole g has, with the same value.
   whole-within : (n d h : ℕ) (x : A) → Whole f l n d h x → Whole g l n d h x
   whole-within n d h x (by-list q) = by-list q
@@ -194,7 +199,7 @@ module _ {A : Type 0} (f g : Merger A) (l : List (Entry A)) (within : (d h : ℕ
   map-longer D = joined-longer 12 _ _ (λ h. tops-longer D 0 h)
 
 -- ---- a parent that one merger keeps and another swallows
-module _ {A : Type 0} (f g : Merger A) (within : (d h : ℕ) (a b c e x : A) → f d h a b c e ≡ some x → g d h a b c e ≡ some x) (D : ℕ) (l : List (Entry A)) (rises : Rises D 0 (nHash D) l)
+module _ {A : Type 0} (f g : Merger A) (within : Within f g) (D : ℕ) (l : List (Entry A)) (rises : Rises D 0 (nHash D) l)
     (p q : ℕ) (v0 v1 v2 v3 x : A) (four : WholeChildren f D l p q v0 v1 v2 v3) (keeps : (a b c e : A) → f p q a b c e ≡ none) (swallows : g p q v0 v1 v2 v3 ≡ some x) where
   first-child : Whole f l (D - suc p) (suc p) (4 * q + 0) v0
   first-child = whole-is f l _ _ _ _ (four .0)

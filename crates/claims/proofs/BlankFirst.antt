@@ -2,7 +2,7 @@
 -- map", against the merger before it (specs/Former), for adding, pooling, asking and committing. Assumes nothing.
 use mathlib.Core.Path.{_≡_, refl, ap, sym, _∙_}
 use mathlib.Core.Bool.{Bool, true, false}
-use mathlib.Core.List.{List, [], _∷_, _++_, map, reverse, append-nil, append-assoc}
+use mathlib.Core.List.{List, [], _∷_, _++_, reverse, append-nil, append-assoc}
 use mathlib.Core.Logic.{_⊎_, inl, inr, ⊎-map, _↔_}
 use mathlib.Core.Option.{Option, none, some}
 use Prim.Native.Nat.{ℕ, _+_, _≤_, _<_}
@@ -10,7 +10,6 @@ use native.Mathlib.Omega.{arith}
 use lib.Ieee.{Float}
 use lib.ListN.{length}
 use borrow.Author.Tests.{le-leb}
-use Rattle.refusal.specs.declared.Refusal.{Refusal}
 use Rattle.zuniq.specs.Cells.{nHash}
 use Rattle.zuniq.proofs.Basics.{le-or-lt}
 use Rattle.protection.specs.Protected.{isProtected}
@@ -23,18 +22,17 @@ use Rattle.build.specs.Map.{Entry, Merger, definedMap}
 use Rattle.build.specs.Buffers.{laid, zuniqOf, valueOf}
 use Rattle.build.specs.Promises.{Rises, WholeChildren}
 use Rattle.build.specs.Calls.{Buffers, Batch, Answer, Calls, cells, addCalls, joinedCells, joinedMap, judge, joinBy, joinCalls, left}
-use Rattle.build.specs.Counts.{Report, countsAdded, countCalls}
-use Rattle.build.specs.declared.counts.CountsAdded.{CountsAdded}
+use Rattle.build.specs.Counts.{countCalls}
 use Rattle.build.proofs.AnyMerger.{Alike, map-alike, children-alike, alike-before, map-longer, maps-differ}
 use Rattle.build.proofs.Calls.{Sound, joining, calls-do-as-joined, joined-batches-rise}
 use Rattle.build.proofs.Sound.{count-calls-sound}
-use Rattle.combine.specs.Rules.{combined, definedPool}
+use Rattle.combine.specs.Rules.{combined, splitCount, definedPool}
 use Rattle.combine.specs.Pool.{Given, entries, resultDepth, poolKept, poolRefusal, poolOver, poolCounts}
 use Rattle.combine.specs.Ask.{askRefusal, figuresOf, askedOr, askCounts, figuresRefusal, commitRefusal, commitCounts}
 use Rattle.combine.specs.declared.counts.Figures.{Figures}
 use Rattle.claims.specs.Demand3.{AddCalls, first, done, joinedList}
-use Rattle.claims.specs.Former.{withMerger, mergeBlankFirst, acceptBlankFirst, NoBlankProtected, doneBlankFirst, poolOverBy, figuresBy, commitRefusalBy}
-use Rattle.claims.proofs.Demand3.{as-due}
+use Rattle.claims.specs.Former.{withMerger, mergeBlankFirst, acceptBlankFirst, NoBlankProtected, doneBlankFirst, poolOverWith, figuresBy, commitRefusalBy}
+use Rattle.claims.proofs.Demand3.{told, calls-are}
 
 -- ---- the merger
 module _ (K : ℕ) (P : List ℕ) (M : ℕ) (T : Float) (p h : ℕ) where
@@ -106,12 +104,12 @@ module _ (K : ℕ) (P : List ℕ) (M : ℕ) (T : Float) (D : ℕ) (l : List (Ent
   pub map-differs : Rises D 0 (nHash D) l → (d h : ℕ) → M ≤ d → isProtected K P d h ≡ true → WholeChildren (acceptCounts K P M T) D l d h 0 0 0 0
       → definedMap (acceptCounts K P M T) D l ≡ definedMap (acceptBlankFirst K P M T) D l → ⊥
   map-differs rises d h u e w =
-      maps-differ (acceptCounts K P M T) (acceptBlankFirst K P M T) (λ d h n0 n1 n2 n3 n a. was-accepted K P M T d h n0 n1 n2 n3 n a) D l rises d h 0 0 0 0 0 w
+      maps-differ (acceptCounts K P M T) (acceptBlankFirst K P M T) (was-accepted K P M T) D l rises d h 0 0 0 0 0 w
       (λ n0 n1 n2 n3. protected-accepts-no-count K P M T d h n0 n1 n2 n3 e) (blank-was-accepted K P M T d h u)
 
   -- Any gives "the longer map", or one as long.
   pub map-no-shorter : length (definedMap (acceptBlankFirst K P M T) D l) ≤ length (definedMap (acceptCounts K P M T) D l)
-  map-no-shorter = map-longer (acceptCounts K P M T) (acceptBlankFirst K P M T) l (λ d h n0 n1 n2 n3 n a. was-accepted K P M T d h n0 n1 n2 n3 n a) D
+  map-no-shorter = map-longer (acceptCounts K P M T) (acceptBlankFirst K P M T) l (was-accepted K P M T) D
 
 -- ---- lists of add calls with another merger, of any value
 module _ {A R X : Type 0} (g : Calls A R X) (accept : Merger A) where
@@ -187,11 +185,8 @@ pub adding-as-before : (K : ℕ) (a : AddCalls) → NoBlankProtected K (a .paren
 adding-as-before K a free =
     let g = countCalls K (a .parents) (a .D) (a .M) (a .T) in
     let sound = count-calls-sound K (a .parents) (a .D) (a .M) (a .T) in
-    as-due K a
-    ∙ ap told (sym (calls-do-as-joined g sound (first a) (a .batches)) ∙ calls-alike g (acceptBlankFirst K (a .parents) (a .M) (a .T)) sound (first a) (a .batches) (alike K (a .parents) (a .M) (a .T) (a .D) (joinedList K a) free))
-  where
-    told : Buffers ℕ × List (Answer Refusal Report) → Buffers ℕ × List CountsAdded
-    told t = (t .0, map countsAdded (t .1))
+    calls-are K (a .parents) (a .D) (a .M) (a .T) (first a) (a .batches)
+    ∙ ap told (calls-alike g (acceptBlankFirst K (a .parents) (a .M) (a .T)) sound (first a) (a .batches) (alike K (a .parents) (a .M) (a .T) (a .D) (joinedList K a) free))
 
 module _ (P : List ℕ) (l r : Given ℕ) (M : ℕ) (T : Float) (free : NoBlankProtected 29 P M (acceptCounts 29 P M T) (resultDepth l r) (poolKept l r)) where
   pooled-as-before : definedPool (acceptCounts 29 P M T) (resultDepth l r) (entries l) (entries r) ≡ definedPool (acceptBlankFirst 29 P M T) (resultDepth l r) (entries l) (entries r)
@@ -199,8 +194,8 @@ module _ (P : List ℕ) (l r : Given ℕ) (M : ℕ) (T : Float) (free : NoBlankP
   pooled-as-before = map-as-before 29 P M T (resultDepth l r) (poolKept l r) free
 
   -- A pool: its answer and the output.
-  pub pool-as-before : (zs vs : List ℕ) → poolCounts P l r M T zs vs ≡ poolOverBy (acceptBlankFirst 29 P M T) P (poolRefusal P l r M T (length zs) (length vs)) l r M T zs vs
-  unfolding poolCounts poolOver poolOverBy
+  pub pool-as-before : (zs vs : List ℕ) → poolCounts P l r M T zs vs ≡ poolOverWith (acceptBlankFirst 29 P M T) splitCount P (poolRefusal P l r M T (length zs) (length vs)) l r M T zs vs
+  unfolding poolCounts poolOver poolOverWith
   pool-as-before zs vs = rw pooled-as-before refl
 
   figures-as-before : figuresOf P l r M T ≡ figuresBy (acceptBlankFirst 29 P M T) l r
@@ -214,6 +209,6 @@ module _ (P : List ℕ) (l r : Given ℕ) (M : ℕ) (T : Float) (free : NoBlankP
 
   -- A commit: also by number 16.
   pub commit-as-before : (f : Figures) (zs vs : List ℕ)
-      → commitCounts P l r M T f zs vs ≡ poolOverBy (acceptBlankFirst 29 P M T) P (commitRefusalBy (acceptBlankFirst 29 P M T) P l r M T f (length zs) (length vs)) l r M T zs vs
-  unfolding commitCounts commitRefusal figuresRefusal commitRefusalBy poolOver poolOverBy
+      → commitCounts P l r M T f zs vs ≡ poolOverWith (acceptBlankFirst 29 P M T) splitCount P (commitRefusalBy (acceptBlankFirst 29 P M T) P l r M T f (length zs) (length vs)) l r M T zs vs
+  unfolding commitCounts commitRefusal figuresRefusal commitRefusalBy poolOver poolOverWith
   commit-as-before f zs vs = rw (pooled-as-before, figures-as-before) refl

@@ -51,7 +51,7 @@ pub mergers-sum : (K : ℕ) (P : List ℕ) (M : ℕ) (T : Float) → Sums (accep
 mergers-sum K P M T d h k0 k1 k2 k3 x q = accepted-count-is-sum K P M T d h k0 k1 k2 k3 x q
 
 -- ---- the calls as their contract has them
-abbrev told : Buffers ℕ × List (Answer Refusal Report) → Buffers ℕ × List CountsAdded
+abbrev pub told : Buffers ℕ × List (Answer Refusal Report) → Buffers ℕ × List CountsAdded
 told t = (t .0, map countsAdded (t .1))
 
 -- A list of calls of `addCounts`, each handed what the one before left and answered, is one of `addCall`.
@@ -59,7 +59,7 @@ module _ (K : ℕ) (P : List ℕ) (D M : ℕ) (T : Float) where
   abbrev counting : Calls ℕ Refusal Report
   counting = countCalls K P D M T
 
-  calls-are : (b : Buffers ℕ) (cs : List (Batch ℕ)) → calls K P D M T b cs ≡ told (addCalls counting b cs)
+  pub calls-are : (b : Buffers ℕ) (cs : List (Batch ℕ)) → calls K P D M T b cs ≡ told (addCalls counting b cs)
   unfolding calls addCalls addCounts addCall
   calls-are b [] = refl
   calls-are b (c ∷ cs) =

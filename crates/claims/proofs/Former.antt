@@ -24,7 +24,7 @@ use Rattle.combine.specs.Pool.{Given, entries, resultDepth, placesRefusal, pool
 use Rattle.combine.proofs.Sharing.{split-count-by-turn}
 use Rattle.combine.proofs.AnySplit.{overlay-number, overlay-alike}
 use Rattle.combine.proofs.Kept.{pool-keeps-length}
-use Rattle.claims.specs.Former.{formerRow1, withFormerRow1, withMerger, formerSplitCount, poolRefusalWith, poolCountsWith}
+use Rattle.claims.specs.Former.{formerRow1, withFormerRow1, withMerger, formerSplitCount, poolRefusalWith, poolOverWith, poolCountsWith}
 
 -- ---- note 1
 former-row-passes : (D : ℕ) → 0 < D → D ≤ 29 → formerRow1 D ≡ none
@@ -74,6 +74,6 @@ module _ (P : List ℕ) (l r : Given ℕ) (M : ℕ) (T : Float) where
 
   -- "unchanged, since the only h split is 0": a pool in which no cell is split whose h mod 4 is not 0 answers and leaves what it did.
   pub pool-as-before : ((d h : ℕ) → IsSplit (entries l) (entries r) d h → h % 4 ≡ 0) → (zs vs : List ℕ) → poolCounts P l r M T zs vs ≡ poolCountsWith formerSplitCount P l r M T zs vs
-  unfolding poolCounts poolOver poolRefusal poolCountsWith poolRefusalWith combined
+  unfolding poolCounts poolOver poolRefusal poolCountsWith poolOverWith poolRefusalWith combined
   pool-as-before only zs vs =
       rw (overlay-alike splitCount formerSplitCount (entries l) (entries r) (λ d h s v i u. split-as-before d h v i (only d h s) u) (resultDepth l r)) refl

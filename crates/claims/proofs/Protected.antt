@@ -92,7 +92,7 @@ module _ (K : ℕ) (a : AddCalls) (e : Entry ℕ) (m : Has (mapOf K a) e) where
   pub added-protected : isProtected K (a .parents) (e .depth) (e .hash) ≡ true → Has (joinedList K a) e
   added-protected p = protected-count-listed K (a .parents) (a .M) (a .T) (a .D) (joinedList K a) e m p
 
-  -- and none lies strictly above a listed parent's children, where there can be any: such a parent is no shallower than D.
+  -- and none lies strictly above the children of a listed parent that is shallower than D.
   pub added-above-protected : (p q : ℕ) → isProtected K (a .parents) p q ≡ true → LiesIn p q e → a .D ≤ p
   added-above-protected p q t i =
       let b = above-protected-count K (a .parents) (a .M) (a .T) (a .D) (joinedList K a) p q t e m i in

@@ -1,4 +1,5 @@
--- What a request of document 02 changed, as it was before it: definitions that the laws of proofs/Former compare with.
+-- What a request of document 02 changed, as it was before it: definitions that the laws of proofs/Former, and those of proofs/BlankFirst,
+-- compare with.
 use mathlib.Core.Path.{_≡_}
 use mathlib.Core.Bool.{true, _&&_, _||_, not, cond}
 use mathlib.Core.List.{List, map, reverse}
@@ -57,6 +58,14 @@ withMerger accept g = record {
 unfoldable pub formerSplitCount : Split ℕ
 formerSplitCount d h v i = v / 4 + cond (ltb i (v % 4)) 1 0
 
+-- the answer and output of a pool with another merger or another way to split, by its refusal
+unfoldable pub poolOverWith : Merger ℕ → Split ℕ → List ℕ → Option Refusal → Given ℕ → Given ℕ → ℕ → Float → List ℕ → List ℕ → CountsAdded × List ℕ × List ℕ
+poolOverWith accept split P refusal l r M T zs vs =
+    let K = resultDepth l r in
+    let pool = reverse (combined accept split poolRule K (entries l) (entries r)) in
+    let t = answered (countCalls 29 P K M T) refusal (record { number = 0; zuniqs = zs; values = vs }) pool in
+    (countsAdded (t .1), t .0 .zuniqs, t .0 .values)
+
 -- a pool with another way to split: with `formerSplitCount` for `splitCount` its refusals,
 unfoldable pub poolRefusalWith : Split ℕ → List ℕ → Given ℕ → Given ℕ → ℕ → Float → ℕ → ℕ → Option Refusal
 poolRefusalWith split P l r M T places values =
@@ -64,11 +73,7 @@ poolRefusalWith split P l r M T places values =
 
 -- and the call, are the former ones
 unfoldable pub poolCountsWith : Split ℕ → List ℕ → Given ℕ → Given ℕ → ℕ → Float → List ℕ → List ℕ → CountsAdded × List ℕ × List ℕ
-poolCountsWith split P l r M T zs vs =
-    let K = resultDepth l r in
-    let pool = reverse (combined (acceptCounts 29 P M T) split poolRule K (entries l) (entries r)) in
-    let t = answered (countCalls 29 P K M T) (poolRefusalWith split P l r M T (length zs) (length vs)) (record { number = 0; zuniqs = zs; values = vs }) pool in
-    (countsAdded (t .1), t .0 .zuniqs, t .0 .values)
+poolCountsWith split P l r M T zs vs = poolOverWith (acceptCounts 29 P M T) split P (poolRefusalWith split P l r M T (length zs) (length vs)) l r M T zs vs
 
 -- ---- before note 11
 -- "A quad whose parent is listed is kept, though blank quads of Note 4 merge first."
@@ -91,13 +96,8 @@ doneBlankFirst K a =
     let t = addCalls (withMerger (acceptBlankFirst K (a .parents) (a .M) (a .T)) (countCalls K (a .parents) (a .D) (a .M) (a .T))) (first a) (a .batches) in
     (t .0, map countsAdded (t .1))
 
--- a pool, an ask and a commit with another merger: with `acceptBlankFirst 29 P M T` for `acceptCounts 29 P M T` they are the former ones
-unfoldable pub poolOverBy : Merger ℕ → List ℕ → Option Refusal → Given ℕ → Given ℕ → ℕ → Float → List ℕ → List ℕ → CountsAdded × List ℕ × List ℕ
-poolOverBy accept P refusal l r M T zs vs =
-    let K = resultDepth l r in
-    let t = answered (countCalls 29 P K M T) refusal (record { number = 0; zuniqs = zs; values = vs }) (reverse (definedPool accept K (entries l) (entries r))) in
-    (countsAdded (t .1), t .0 .zuniqs, t .0 .values)
-
+-- the figures of an ask and the refusals of a commit with another merger: with `acceptBlankFirst 29 P M T` for `acceptCounts 29 P M T` they
+-- are the former ones
 unfoldable pub figuresBy : Merger ℕ → Given ℕ → Given ℕ → Figures
 figuresBy accept l r =
     let pool = definedPool accept (resultDepth l r) (entries l) (entries r) in
