@@ -7,7 +7,7 @@
 # For that it compiles the originals of docs/src (host/oracle) and runs differential's program `answers`
 # over them; the arguments are a fixed choice, so the output is always the same. It asks for docs/src (or
 # ORACLE_DOCS), for the crates that host/oracle/fetch.sh brings and, to link the package, for the
-# archive that `rt staticlib mom_c` writes (or MOM_LIB_DIR), which it never calls.
+# archive that `rt lib` makes in crates/mom_c (or MOM_LIB_DIR), which it never calls.
 set -eu
 cd "$(dirname "$0")"
 ./oracle/fetch.sh

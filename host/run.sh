@@ -1,6 +1,6 @@
 #!/bin/bash
-# Runs the Rust beside the proofs. The gate calls it after `rt ci`, which builds the program `mombuild`,
-# and `rt staticlib mom_c`.
+# Runs the Rust beside the proofs. The gate calls it once the program `mombuild` and the archive stand in
+# the out/ folders of their crates, where `rt run` and `rt lib` make them.
 #
 #     host/run.sh [SECONDS [SEED]]
 #
@@ -126,7 +126,7 @@ clippy_of() {
 c_header() {
     mkdir -p target &&
         cc -std=c99 -Wall -Wextra -Werror -pedantic include/mom_test.c -o target/mom_test \
-            -L"${MOM_LIB_DIR:-../target/staticlib}" -lmom_c && target/mom_test
+            -L"${MOM_LIB_DIR:-../crates/mom_c/out}" -lmom_c && target/mom_test
 }
 
 mom_tests() {

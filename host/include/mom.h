@@ -59,7 +59,7 @@
  *
  * Everything else, numbers of any value and buffers with any content, is answered or refused.
  *
- * Link with -lmom_c. The archive is made by `rt staticlib mom_c`, for x86-64.
+ * Link with -lmom_c. The archive is made by `rt lib` in crates/mom_c, for x86-64.
  */
 #ifndef MOM_H
 #define MOM_H

@@ -1,4 +1,4 @@
-//! Links libmom_c.a from target/staticlib of the repository, or from where MOM_LIB_DIR points. That
+//! Links libmom_c.a from crates/mom_c/out of the repository, or from where MOM_LIB_DIR points. That
 //! has to be absolute: cargo runs this in the package's directory, wherever it was called itself.
 
 use std::{env, path::PathBuf};
@@ -7,7 +7,7 @@ fn main() {
     println!("cargo::rerun-if-env-changed=MOM_LIB_DIR");
     let dir = match env::var_os("MOM_LIB_DIR") {
         Some(dir) => PathBuf::from(dir),
-        None => PathBuf::from(env!("CARGO_MANIFEST_DIR")).join("../../target/staticlib"),
+        None => PathBuf::from(env!("CARGO_MANIFEST_DIR")).join("../../crates/mom_c/out"),
     };
     let archive = dir.join("libmom_c.a");
     println!("cargo::rerun-if-changed={}", archive.display());
@@ -21,7 +21,7 @@ fn main() {
         println!("cargo::rustc-link-lib=static=mom_c");
     } else {
         println!(
-            "cargo::error={} is not there: run `rt staticlib mom_c` in the repository, \
+            "cargo::error={} is not there: run `rt lib` in crates/mom_c of the repository, \
              or set MOM_LIB_DIR to the directory that holds the archive",
             archive.display()
         );

@@ -3,6 +3,8 @@
 // exactly as many places as there are cells, and commits.
 //
 // Asking walks the overlay once, in fixed memory; committing walks it twice.
+#![tactic(auto)]
+
 ghost use Rattle.std.specs.Prelude.{◌≡◌, not};
 ghost use Rattle.combine.specs.Pool.{pool_input_refusal};
 ghost use Rattle.combine.specs.Ask.{figures_of, asked_or, ask_counts, same_figures, commit_counts};

@@ -1,11 +1,11 @@
 -- Collapsing a map in two buffers, turn by turn: what is known before a turn, and what each way out and each turn leaves.
 -- Over any type of values and any merger. Assumes nothing.
-use mathlib.Core.Path.{◌≡◌, refl, ap, sym, ◌∙◌, subst}
-use mathlib.Core.Bool.{Bool, true, false, cond}
-use mathlib.Core.List.{List, [], ◌∷◌}
+use mathlib.Core.Path.{◌≡◌, refl, sym, ◌∙◌, subst}
+use mathlib.Core.Bool.{true, false}
+use mathlib.Core.List.{List, ◌∷◌}
 use mathlib.Core.Logic.{⊎_elim}
-use mathlib.Core.Option.{Option, none, some, map}
-use Prim.Native.Nat.{ℕ, zero, suc, ◌+◌, ◌*◌, ◌≤◌, ◌<◌, ◌/◌, ◌%◌, ◌-◌, ◌^◌}
+use mathlib.Core.Option.{none, some}
+use Prim.Native.Nat.{ℕ, zero, suc, ◌+◌, ◌*◌, ◌≤◌, ◌<◌, ◌/◌, ◌%◌, ◌-◌}
 use native.Mathlib.Numerals.{add-one}
 use native.Mathlib.Omega.{arith}
 use lib.ListN.{length, get_or, set}
@@ -22,7 +22,7 @@ use Rattle.build.specs.Promises.{total, Sums}
 use Rattle.build.specs.Buffers.{held}
 use Rattle.build.specs.Standing.{Stands, quad_at, Collapsed}
 use Rattle.build.proofs.Places.{held-suc, held-set, stands_set, fewer, Behind-same}
-use Rattle.build.proofs.Quads.{step_at, step_at_lem}
+use Rattle.build.proofs.Quads.{step_at_lem}
 
 -- A map without a step stays.
 collapse_none : {A : Type 0} (accept : Merger A) (n : ℕ) (s : List (Entry A)) → step accept s ≡ none → collapse_up_to accept n s ≡ s

@@ -1,12 +1,12 @@
 -- Where a held map ends, as a hash of the map's depth. Assumes nothing.
-use mathlib.Core.Path.{◌≡◌, refl, ap, sym, ◌∙◌, subst}
+use mathlib.Core.Path.{◌≡◌, refl, ap, sym, ◌∙◌}
 use mathlib.Core.List.{List, [], ◌∷◌}
-use Prim.Native.Nat.{ℕ, zero, suc, ◌+◌, ◌*◌, ◌≤◌, ◌<◌, ◌-◌, ◌^◌}
+use Prim.Native.Nat.{ℕ, suc, ◌+◌, ◌*◌, ◌≤◌, ◌<◌, ◌-◌, ◌^◌}
 use native.Mathlib.Omega.{arith}
 use native.Mathlib.Nat.{pow-le-pow_right, mul-le-mul_left, le-mul_of_pos_right, le_trans}
 use lib.ListN.{length, get_or}
 use Rattle.zuniq.specs.Cells.{n_hash, end}
-use Rattle.zuniq.specs.Codec.{IsZuniqOf, decode}
+use Rattle.zuniq.specs.Codec.{decode}
 use Rattle.zuniq.specs.declared.Decoded.{Decoded}
 use Rattle.zuniq.proofs.Basics.{four_pow_pos, four_pow_two}
 use Rattle.zuniq.proofs.Codec.{cell, decodes}

@@ -1,17 +1,16 @@
 -- A map in two buffers, place by place: what appending an entry or replacing the last four by one does to it. Over any type
 -- of values; `u` is what a place past the end of a buffer reads as. Assumes nothing.
 use mathlib.Core.Path.{◌≡◌, refl, ap, sym, ◌∙◌, subst, subst₂}
-use mathlib.Core.List.{List, [], ◌∷◌, ◌++◌, map, map-append, reverse, reverse-cons}
+use mathlib.Core.List.{List, [], ◌∷◌, ◌++◌}
 use mathlib.Core.Logic.{⊎_elim}
-use Prim.Native.Nat.{ℕ, zero, suc, ◌+◌, ◌*◌, ◌≤◌, ◌<◌, ◌-◌}
+use Prim.Native.Nat.{ℕ, zero, suc, ◌+◌, ◌≤◌, ◌<◌, ◌-◌}
 use native.Mathlib.Numerals.{add-one}
 use native.Mathlib.Omega.{arith}
 use native.Mathlib.Nat.{suc_inj, eq-or-lt_of_le, le_of_suc-le-suc}
-use lib.ListN.{length, get_or, take, drop, set, replicate, length-set, length-take}
-use lib.Seq.{drop-set-lt, take-suc, take-set-le, take-suc-set, length-take-le, get_or-set_same, get_or-set_other}
+use lib.ListN.{length, get_or, take, set, length-set}
+use lib.Seq.{drop-set-lt, take-suc, take-suc-set, length-take-le, get_or-set_same, get_or-set_other}
 use borrow.Rule.Slice.PartMut.{mid_of, put_mid, set_mid_at, mid_len}
-use Rattle.zuniq.specs.Codec.{zuniq, IsZuniqOf, decode}
-use Rattle.zuniq.specs.declared.Decoded.{Decoded}
+use Rattle.zuniq.specs.Codec.{IsZuniqOf, decode}
 use Rattle.zuniq.proofs.Codec.{cell, decodes}
 use Rattle.build.specs.Map.{Entry, entry}
 use Rattle.build.proofs.Buffers.{laid_cons}

@@ -1,19 +1,19 @@
 -- Four siblings in a buffer: their zuniqs are evenly spaced, and finding them there is finding the quad that a step merges.
 -- Assumes nothing.
-use mathlib.Core.Path.{◌≡◌, refl, ap, sym, ◌∙◌, subst}
+use mathlib.Core.Path.{◌≡◌, refl, ap, sym, ◌∙◌}
 use mathlib.Core.Bool.{Bool, true, false, ◌&&◌, cond, and_comm, and_assoc, and-false, false≢true}
 use mathlib.Core.List.{List, [], ◌∷◌}
-use mathlib.Core.Option.{Option, none, some, map}
+use mathlib.Core.Option.{Option, none, map}
 use Prim.Native.Nat.{ℕ, zero, suc, ◌+◌, ◌*◌, ◌≤◌, ◌<◌, ◌/◌, ◌%◌, ◌-◌, ◌^◌}
 use native.Mathlib.Omega.{arith}
-use lib.Dec.{eqb, leb}
+use lib.Dec.{eqb}
 use lib.ListN.{length, get_or}
 use borrow.Author.Tests.{eq-eqb, ne_eqb, eqb-true, eqb-false, le-leb, lt-leb}
 use Rattle.zuniq.specs.Codec.{zuniq, IsZuniqOf}
 use Rattle.zuniq.proofs.Basics.{and_is_true, is_false, four_pow_pos}
 use Rattle.zuniq.proofs.Codec.{zuniq-injective}
-use Rattle.build.specs.Map.{Entry, entry, is_cell, Merger}
-use Rattle.build.specs.Stack.{is_child, is_quad, merge_into, step}
+use Rattle.build.specs.Map.{Entry, entry, Merger}
+use Rattle.build.specs.Stack.{is_child, step}
 use Rattle.build.specs.Buffers.{held}
 use Rattle.build.specs.Standing.{Stands, quad_at}
 use Rattle.build.proofs.Places.{held-suc, held-length}

@@ -1,6 +1,6 @@
 -- Section 4 of the scope: the add calls. A call's refusals are one definition, the first that applies in the order of the
 -- table "Refusals in checking order"; its answer and both buffers afterwards are another.
-use Rattle.std.specs.Prelude.{Bool, ◌||◌, not, List, [], ◌∷◌, ℕ, ◌+◌, min, eqb, leb, ltb, Float, length}
+use Rattle.std.specs.Prelude.{Bool, ◌||◌, not, List, [], ◌∷◌, ℕ, ◌+◌, min, eqb, leb, ltb, Float}
 use Rattle.std.proofs.Math.Option.{Option, none, some}
 use Rattle.std.specs.Float.Ieee.{is_nan}
 use Rattle.zuniq.specs.Cells.{n_hash, end}

@@ -1,5 +1,5 @@
 -- What the inner functions of adding promise: a map in the first places of two buffers, while cells are appended to it.
-use Rattle.std.specs.Prelude.{◌≡◌, Bool, ◌&&◌, List, [], ◌∷◌, ℕ, ◌+◌, ◌*◌, ◌/◌, ◌%◌, ◌-◌, ◌≤◌, ◌<◌, eqb, leb, length, get_or, drop}
+use Rattle.std.specs.Prelude.{◌≡◌, Bool, ◌&&◌, List, [], ◌∷◌, ℕ, ◌+◌, ◌/◌, ◌%◌, ◌-◌, ◌≤◌, ◌<◌, eqb, leb, length, get_or, drop}
 use Rattle.zuniq.specs.Cells.{n_hash, child_hash}
 use Rattle.zuniq.specs.Codec.{zuniq, IsZuniqOf}
 use Rattle.build.specs.Map.{Entry, entry, Merger}

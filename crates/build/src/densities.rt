@@ -2,7 +2,7 @@
 use refusal::Refusal;
 
 // What adding densities answers: the number of entries, or why it is refused.
-#[derive(Drop)]
+#[derive(Clone, Copy)]
 pub enum DensitiesAdded {
     Added { entries: usize },
     Refused(Refusal),

@@ -11,6 +11,8 @@
 //
 // The calls are in `build_counts` and `build_densities`. Here are the definitions and laws of both,
 // their answers, and what they share: checks, siblings and the free part.
+#![tactic(auto)]
+
 ghost use Rattle.std.specs.Prelude.{◌≡◌, ◌&&◌, ◌+◌, ◌-◌, ◌*◌, ◌^◌, ◌≤◌, ◌<◌, ltb, length, get_or, take};
 ghost use Rattle.zuniq.specs.Codec.{IsZuniqOf};
 ghost use Rattle.mom.specs.Map.{first_fault, ValidMap};
@@ -29,7 +31,7 @@ pub mod densities;
 pub mod free;
 
 // Where the held map of an add call ends, as a hash of its depth, or why the call is refused.
-#[derive(Drop)]
+#[derive(Clone, Copy)]
 pub enum HeldMap {
     EndsAt(u64),
     Refused(Refusal),
@@ -150,6 +152,7 @@ fn end_of_map(depth: u8, zuniqs: &[u64]) -> u64
 }
 
 // Rows 7 and 8 for one cell: `least` is the smallest hash that is above what stands before it.
+#[tactic(auto, unfolding(crate::specs::Add::cell_refusal))]
 pub fn check_cell(n_hash: u64, least: u64, hash: u64, place: usize) -> Check
     ensures { result ≡ check_of (cell_refusal n_hash least hash place) }
 {

@@ -1,4 +1,6 @@
 // Adding counts.
+#![tactic(auto)]
+
 ghost use Rattle.std.specs.Prelude.{◌≡◌, ◌+◌, ◌-◌, ◌≤◌, ◌<◌, ◌%◌, min, length, get_or, set, take};
 ghost use mathlib.Core.List.{reverse_aux};
 ghost use Rattle.std.proofs.Math.Option.{some};

@@ -1,5 +1,7 @@
 // Adding densities. There is no total to keep, but held densities and those of the batch are checked:
 // chi-square is told of finite densities from 0 up.
+#![tactic(auto)]
+
 ghost use Rattle.std.specs.Prelude.{◌≡◌, ◌+◌, ◌-◌, ◌≤◌, ◌<◌, ◌%◌, length, get_or, set, take};
 ghost use mathlib.Core.List.{reverse_aux};
 ghost use Rattle.std.specs.Float.{nan};

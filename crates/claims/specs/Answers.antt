@@ -1,6 +1,6 @@
 -- The scope's table "Refusals in checking order" as it is read for one call: its rows one after the other, each with the scope's
 -- number, and behind them what the call answers. The laws of proofs/Answers say every call's promise in this form.
-use Rattle.std.specs.Prelude.{Bool, true, false, cond, ℕ}
+use Rattle.std.specs.Prelude.{Bool, cond, ℕ}
 use Rattle.std.proofs.Math.Option.{Option, none, some}
 use Rattle.refusal.specs.Told.{Told, refused_by}
 use Rattle.refusal.specs.declared.Refusal.{Refusal}

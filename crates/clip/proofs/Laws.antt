@@ -10,7 +10,7 @@ use lib.Ieee.{Float}
 use lib.ListN.{length, take, replicate, length-map}
 use borrow.Author.Tests.{le-ltb, eq-eqb}
 use Rattle.refusal.specs.declared.Refusal.{Refusal}
-use Rattle.zuniq.specs.Cells.{n_hash}
+use Rattle.zuniq.specs.Cells.{end, n_hash}
 use Rattle.zuniq.proofs.Codec.{cell, decodes}
 use Rattle.merger.specs.Floats.{0·0}
 use Rattle.mom.specs.Map.{ValidMap}
@@ -25,7 +25,7 @@ use Rattle.build.proofs.Rising.{Rises-in_range}
 use Rattle.combine.specs.Slices.{entries_of}
 use Rattle.combine.specs.Pool.{Given, entries, pairs_refusal, places_refusal}
 use Rattle.combine.proofs.Given.{entries_rise, entries_laid}
-use Rattle.coverage.specs.Ranges.{Range, ranges_of, padded, from_of, to_of, ranges_refusal}
+use Rattle.coverage.specs.Ranges.{Range, ranges_of, padded, from_of, to_of}
 use Rattle.coverage.specs.Coverage.{coverage_of}
 use Rattle.coverage.specs.Promises.{Parted}
 use Rattle.coverage.proofs.Given.{accepted_parted}
@@ -36,7 +36,7 @@ use Rattle.clip.specs.Clip.{clipped}
 use Rattle.clip.specs.Promises.{Clips}
 use Rattle.clip.specs.Call.{clipped_of, clip_input_refusal, clip_refusal, clipped_or, clip_call}
 use Rattle.clip.proofs.Tree.{clip_rises, clip_valid, clip_has_iff}
-use Rattle.clip.proofs.Call.{Passed, passes_all}
+use Rattle.clip.proofs.Call.{passes_all}
 use Rattle.clip.proofs.Own.{cover_of, clip_coverage, clip_own, clip_empty}
 
 -- The entries of a valid map have its zuniqs and its values.
@@ -47,7 +47,7 @@ laid_again D b [] (v ∷ vs) n r = absurd (omega arith)
 laid_again D b (z ∷ zs) [] n r = absurd (omega arith)
 laid_again {A} D b (z ∷ zs) (v ∷ vs) n r =
     let e = r.0 in
-    let more = laid_again D _ zs vs (omega arith) r.1 in
+    let more = laid_again D (end 29 e.depth e.hash) zs vs (omega arith) r.1 in
     rw ((decodes 29 z (cell e.depth e.hash)).1 e.is) (ap₂ ◌∷◌ (sym e.is.is) more.0, ap (λ (t : List A). v ∷ t) more.1)
 
 -- The coverage of a valid map is that of its entries.

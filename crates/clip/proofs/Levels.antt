@@ -9,7 +9,7 @@ use lib.Pow.{pow_mono, shr-shr}
 use Rattle.zuniq.specs.Cells.{n_hash, start, end}
 use Rattle.zuniq.proofs.Basics.{four_pow_two}
 use Rattle.coverage.proofs.Inside.{end-is_start_plus_width}
-use Rattle.clip.specs.Passes.{LargestAt, LargestWidth}
+use Rattle.clip.specs.Passes.{LargestWidth}
 
 pub sky_is : n_hash 29 ≡ 3458764513820540928
 unfolding n_hash

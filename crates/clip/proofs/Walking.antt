@@ -3,11 +3,11 @@
 use mathlib.Core.Path.{◌≡◌, refl, ap, sym, ◌∙◌}
 use mathlib.Core.List.{List, [], ◌∷◌, ◌++◌, map, map-append, append_assoc, append-nil}
 use mathlib.Core.Logic.{◌⊎◌, inl, inr, ⊎_elim}
-use Prim.Native.Nat.{ℕ, suc, ◌+◌, ◌*◌, ◌-◌, ◌^◌, ◌≤◌, ◌<◌, max, min}
+use Prim.Native.Nat.{ℕ, suc, ◌+◌, ◌*◌, ◌^◌, ◌≤◌, ◌<◌, max, min}
 use native.Mathlib.Numerals.{add-one}
 use native.Mathlib.Omega.{arith}
 use lib.Ieee.{Float, nan}
-use lib.ListN.{length, get_or, take, drop, set, length-append, length-set, drop_of_length-le}
+use lib.ListN.{length, get_or, take, drop, set, length-append, drop_of_length-le}
 use lib.Seq.{drop-cons, take-suc-set}
 use Rattle.zuniq.specs.Cells.{n_hash, start, end}
 use Rattle.zuniq.proofs.Codec.{cell, decodes}
@@ -17,7 +17,6 @@ use Rattle.build.specs.Buffers.{zuniq_of, value_of}
 use Rattle.build.specs.Promises.{Has, start_of, end_of, Rises}
 use Rattle.build.proofs.Rising.{range_of, Rises-has, Rises-from}
 use Rattle.combine.specs.Slices.{entries_of, Holds}
-use Rattle.combine.proofs.Overlay.{Rises-length}
 use Rattle.coverage.specs.Ranges.{Range, range, ranges_of}
 use Rattle.coverage.specs.Promises.{HasRange, Parted, RangeOf}
 use Rattle.coverage.proofs.Ranges.{Parted-has, Parted-from}
@@ -26,7 +25,7 @@ use Rattle.coverage.proofs.Given.{ranges_drop, ranges_drop_end}
 use Rattle.clip.specs.declared.Pass.{Pass}
 use Rattle.clip.specs.Call.{clipped_of}
 use Rattle.clip.specs.Passes.{LargestAt, LargestWidth, Cut, CutInto, Outcome, Room, CanCut, IsCut, CanKeep, Kept}
-use Rattle.clip.proofs.Tree.{clip_rises, clip_length, clip_has_iff}
+use Rattle.clip.proofs.Tree.{clip_rises, clip_has_iff}
 use Rattle.clip.proofs.Levels.{width_le}
 use Rattle.clip.proofs.Swept.{Swept, Swept-start, Swept-entries, Swept-ranges, skip_entry, skip_range, Swept-cut}
 

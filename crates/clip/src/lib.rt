@@ -13,6 +13,8 @@
 // output (4), an invalid map (5, place the entry), a density that is NaN, infinite or below 0 (6, place
 // the entry), a range that is empty, ends past the sky or does not start above the end before (14, place
 // the range), and fewer places than there are cells (11).
+#![tactic(auto)]
+
 ghost use Rattle.std.specs.Prelude.{◌≡◌, ◌+◌, ◌^◌, ◌≤◌, ◌<◌, max, min, length};
 ghost use Rattle.zuniq.specs.Cells.{n_hash};
 ghost use Rattle.refusal.specs.Checks.{check_of};
@@ -33,14 +35,14 @@ use refusal::{Check, Refusal};
 use zuniq::Zuniq64;
 
 // What clipping answers: the number of cells, or why it is refused.
-#[derive(Drop)]
+#[derive(Clone, Copy)]
 pub enum Clipped {
     Cells(usize),
     Refused(Refusal),
 }
 
 // What a walk is for: to count the cells, or to write them to the output buffers.
-#[derive(Drop)]
+#[derive(Clone, Copy)]
 pub enum Pass {
     Count,
     Write,

@@ -87,6 +87,9 @@ accepted k bytes space n = go (named k) refl (eqb (bytes % k) 0) refl (ltb space
         let even : bytes % k ≡ 0 = eqb-true _ _ q in
         record { length_named = p; whole = rw (rows, even, add-zero (n * k)) at (div-add-mod' bytes k); room = ltb-false _ _ r }
 
+-- for `rows_to_lay`, each of whose answers is one of these
+pub ruleset answers = (is_named, not_named, uneven, short, fits)
+
 -- ---- the two layouts
 
 -- Row after row, byte j of row i stands at i * k + j; column after column, at j * n + i.

@@ -4,7 +4,7 @@ ghost use Rattle.std.specs.Prelude.{◌≡◌, ◌<◌, ◌^◌};
 ghost use Rattle.columns.specs.Turning.{place};
 
 // Byte j of row i stands at i * row + j * column.
-#[derive(Drop)]
+#[derive(Clone, Copy)]
 pub(crate) struct Layout {
     pub(crate) row: usize,
     pub(crate) column: usize,

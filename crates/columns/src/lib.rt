@@ -9,6 +9,8 @@
 // Refused: a row length that is not 8, 12 or 16, and bytes that are no whole number of rows (number
 // 4), then an output that is shorter than the input (11). A refusal touches nothing; what is past the
 // rows stays as it was.
+#![tactic(auto)]
+
 ghost use Rattle.std.specs.Prelude.{◌≡◌};
 ghost use Rattle.columns.specs.Columns.{rows_to_lay, rows_to_columns, columns_to_rows};
 
@@ -49,6 +51,7 @@ pub fn columns_to_rows(row_size: usize, columns: &[u8], rows: &mut [u8]) -> Rows
 }
 
 // How many rows of this size a number of bytes is, where there is space for all of them.
+#[tactic(auto, using(crate::proofs::Laid::answers))]
 fn rows_to_lay(row_size: usize, bytes: usize, space: usize) -> Rows
     ensures { result ≡ rows_to_lay row_size bytes space }
 {

@@ -76,7 +76,7 @@ module _ {P : List ℕ} {pass : Pass} {zs₀ : List ℕ} {vs₀ : List Float} {z
     cells-next l Cells.NotFinite zs' vs' o p q = (rw (not_finite_append cells l, w.outcome.0) o.0, Wrote-untouched zs' vs' wrote o.1)
 
 -- ---- a cell that is shown
-module _ {P : List ℕ} {k : Float} {lz : List ℕ} {lv : List Float} {rz : List ℕ} {rv : List Float} {zs₀ : List ℕ} {vs₀ : List Float} {zs : List ℕ} {vs : List Float} {pass : Pass} {n m : ℕ} {l r : At Dhzv} {lp rp : List Dhzv}
+module _ {P : List ℕ} (k : Float) {lz : List ℕ} {lv : List Float} {rz : List ℕ} {rv : List Float} {zs₀ : List ℕ} {vs₀ : List Float} {zs : List ℕ} {vs : List Float} {pass : Pass} {n m : ℕ} {l r : At Dhzv} {lp rp : List Dhzv}
     (w : Ready copy_density (product_rule k) as_entry blank zuniq_in lz lv rz rv (WroteCells P pass zs₀ vs₀ (Cells.Number n) zs vs) l r lp rp m)
     (s : LhsRhsBoth) (t : Turned as_entry 29 l.head r.head (shows (saw_of s))) where
   -- What the rule answers can be kept.

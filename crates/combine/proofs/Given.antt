@@ -54,7 +54,7 @@ total_from D b [] (x ∷ vs) n r = absurd (omega arith)
 total_from D b (z ∷ zs) [] n r = absurd (omega arith)
 total_from D b (z ∷ zs) (x ∷ vs) n r =
     let q = (decodes 29 z (cell r.0.depth r.0.hash)).1 r.0.is in
-    rw q (ap (λ (k : ℕ). x + k) (total_from D _ zs vs (omega arith) r.1))
+    rw q (ap (λ (k : ℕ). x + k) (total_from D (end 29 r.0.depth r.0.hash) zs vs (omega arith) r.1))
 
 -- The total of a valid map is the sum of its counts.
 pub entries_total : (D : ℕ) (zs vs : List ℕ) → length zs ≡ length vs → ValidMap 29 D zs → total_of (entries_of zs vs) ≡ sum_of vs

@@ -16,7 +16,7 @@ use Rattle.build.proofs.Law.{run-gives_defined_map}
 use Rattle.build.proofs.DefinedMap.{defined_map-covers, defined_map-total}
 use Rattle.combine.specs.Overlay.{Seen, left, right, both, Split, overlay, swap, swapped}
 use Rattle.combine.specs.Rules.{Rule, kept, combined, split_count, pooled_count, pool_rule, defined_pool}
-use Rattle.combine.specs.Promises.{amount, Shares}
+use Rattle.combine.specs.Promises.{amount}
 use Rattle.combine.proofs.Overlay.{overlay-rises, overlay-covers}
 use Rattle.combine.proofs.Sharing.{split_count-shares}
 use Rattle.combine.proofs.Swap.{overlay-swap}

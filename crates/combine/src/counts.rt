@@ -9,7 +9,7 @@ use refusal::Refusal;
 use zuniq::Zuniq64;
 
 // A cell with its zuniq and its count.
-#[derive(Drop)]
+#[derive(Clone, Copy)]
 pub struct Dhzv {
     pub depth: u8,
     pub hash: u64,
@@ -18,7 +18,7 @@ pub struct Dhzv {
 }
 
 // An overlay cell as the rule sees it.
-#[derive(Drop)]
+#[derive(Clone, Copy)]
 pub enum LhsRhsBoth {
     Left(Dhzv),
     Right(Dhzv),
@@ -26,14 +26,14 @@ pub enum LhsRhsBoth {
 }
 
 // The next cell of a side.
-#[derive(Drop)]
+#[derive(Clone, Copy)]
 pub enum Head {
     Cell(Dhzv),
     End,
 }
 
 // A side of the walk, apart from the array of its pending cells.
-#[derive(Drop)]
+#[derive(Clone, Copy)]
 pub struct Side {
     pub head: Head,
     // How many cells are pending.
@@ -46,7 +46,7 @@ pub struct Side {
 
 // What a turn of the walk does. Each way of showing a cell has a case and an arm of its own: one case
 // that held an LhsRhsBoth would send every cell through memory.
-#[derive(Drop)]
+#[derive(Clone, Copy)]
 pub enum Turn {
     Left(Dhzv),
     Right(Dhzv),
@@ -88,7 +88,7 @@ fn part_of(count: u32, parent_hash: u64, i: u32) -> u32
 }
 
 // What a pool costs and comes to.
-#[derive(Drop)]
+#[derive(Clone, Copy)]
 pub struct Figures {
     // Cells of the overlay: the places that the output needs.
     pub cells: usize,
@@ -99,7 +99,7 @@ pub struct Figures {
 }
 
 // What asking answers.
-#[derive(Drop)]
+#[derive(Clone, Copy)]
 pub enum Asked {
     Answer(Figures),
     Refused(Refusal),

@@ -1,7 +1,7 @@
 // What a walk of two density maps is made of: cells, sides and turns.
 
 // A cell with its zuniq and its density.
-#[derive(Drop)]
+#[derive(Clone, Copy)]
 pub struct Dhzv {
     pub depth: u8,
     pub hash: u64,
@@ -10,7 +10,7 @@ pub struct Dhzv {
 }
 
 // An overlay cell as the rule sees it.
-#[derive(Drop)]
+#[derive(Clone, Copy)]
 pub enum LhsRhsBoth {
     Left(Dhzv),
     Right(Dhzv),
@@ -18,14 +18,14 @@ pub enum LhsRhsBoth {
 }
 
 // The next cell of a side.
-#[derive(Drop)]
+#[derive(Clone, Copy)]
 pub enum Head {
     Cell(Dhzv),
     End,
 }
 
 // A side of the walk, apart from the array of its pending cells.
-#[derive(Drop)]
+#[derive(Clone, Copy)]
 pub struct Side {
     pub head: Head,
     // How many cells are pending.
@@ -38,7 +38,7 @@ pub struct Side {
 
 // What a turn of the walk does. Each way of showing a cell has a case and an arm of its own: one case
 // that held an LhsRhsBoth would send every cell through memory.
-#[derive(Drop)]
+#[derive(Clone, Copy)]
 pub enum Turn {
     Left(Dhzv),
     Right(Dhzv),
@@ -49,14 +49,14 @@ pub enum Turn {
 }
 
 // What the rule answers of an overlay cell.
-#[derive(Drop)]
+#[derive(Clone, Copy)]
 pub enum Answer {
     Kept(Dhzv),
     Dropped,
 }
 
 // What the walk answers: the number of cells or of entries, or that a product is not finite.
-#[derive(Drop)]
+#[derive(Clone, Copy)]
 pub enum Cells {
     Number(usize),
     NotFinite,

@@ -4,6 +4,8 @@
 //
 // The calls, with their walks, are in `pool` and `product`. Here are the definitions and laws of
 // both, what a walk is made of, how a count is split, and the checks that they share.
+#![tactic(auto)]
+
 ghost use Rattle.std.specs.Prelude.{◌≡◌};
 ghost use Rattle.mom.specs.Map.{first_fault};
 ghost use Rattle.refusal.specs.Checks.{or_else, check_of};
@@ -20,7 +22,7 @@ pub mod densities;
 
 // What a walk of two maps is for: to count the cells that the rule keeps, or to merge them into a
 // map in the output buffers.
-#[derive(Drop)]
+#[derive(Clone, Copy)]
 pub enum Pass {
     Count,
     Merge {
@@ -30,6 +32,7 @@ pub enum Pass {
 }
 
 // Rows 1 to 3 of the table of refusals.
+#[tactic(auto, unfolding(crate::specs::Pool::settings_refusal))]
 pub fn check_settings(
     left_depth: u8,
     right_depth: u8,

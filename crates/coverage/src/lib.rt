@@ -9,6 +9,8 @@
 // Refused: a depth over 29 (number 1), output buffers of two lengths (4), an invalid map (5, place the
 // entry), and fewer places than there are ranges (11). A given range can be empty, end past the sky or
 // not start above the end before (14, place the range): `check_ranges` tells.
+#![tactic(auto)]
+
 ghost use Rattle.std.specs.Prelude.{◌≡◌, ◌≤◌, length};
 ghost use Rattle.zuniq.specs.Cells.{n_hash};
 ghost use Rattle.mom.specs.Map.{IsZuniq};
@@ -23,14 +25,14 @@ use refusal::{Check, Refusal};
 use zuniq::{Zuniq64, n_hash_unchecked};
 
 // What writing a coverage answers: the number of ranges, or why it is refused.
-#[derive(Drop)]
+#[derive(Clone, Copy)]
 pub enum Covered {
     Ranges(usize),
     Refused(Refusal),
 }
 
 // The hashes of the largest depth from a start to below an end.
-#[derive(Drop)]
+#[derive(Clone, Copy)]
 pub struct HashRange {
     pub start: u64,
     pub end: u64,

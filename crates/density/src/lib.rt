@@ -2,6 +2,8 @@
 //
 // A density is what refusal 6 of the scope's table accepts in a map: a number that is not NaN, not
 // infinite and not below 0. -0 is one. Refused: a depth over 29 (number 1).
+#![tactic(auto)]
+
 ghost use Rattle.std.specs.Prelude.{◌≡◌};
 ghost use Rattle.density.specs.Densities.{density_of_count, density_of_pattern, pattern_of_density};
 
@@ -10,21 +12,21 @@ use refusal::Refusal;
 use zuniq::Zuniq64;
 
 // The density of a count.
-#[derive(Drop)]
+#[derive(Clone, Copy)]
 pub enum CountDensity {
     Density(f64),
     Refused(Refusal),
 }
 
 // The density of a pattern, or that there is none.
-#[derive(Drop)]
+#[derive(Clone, Copy)]
 pub enum PatternDensity {
     Density(f64),
     Nothing,
 }
 
 // The pattern of a density, or that there is none.
-#[derive(Drop)]
+#[derive(Clone, Copy)]
 pub enum DensityPattern {
     Pattern(u64),
     Nothing,

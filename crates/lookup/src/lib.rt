@@ -7,6 +7,8 @@
 //
 // Refused: a depth over 29 (number 1); a query that is no zuniq, or in `get_cell_containing` not of
 // the map's depth (12). A refusal, like any answer, touches no lent memory.
+#![tactic(auto)]
+
 ghost use Rattle.std.specs.Prelude.{◌≡◌, ◌≤◌, length};
 ghost use Rattle.mom.specs.Lookup.{IsWithin, IsPart, ContainingAnswer, RunAnswer, OverlappedAnswer};
 ghost use Rattle.mom.specs.Range.{meets};

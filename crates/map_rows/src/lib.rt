@@ -7,6 +7,8 @@
 // Refused, in this order: a depth over 29 (number 1); bytes that are no whole number of rows (4); more
 // than 4,096 rows (11); a query that is no zuniq, or in `get_cell_containing` not of the map's depth
 // (12). A refusal, like any answer, touches no lent memory.
+#![tactic(auto)]
+
 ghost use Rattle.std.specs.Prelude.{◌≡◌, ◌≤◌, length};
 ghost use Rattle.mom.specs.Map.{first_fault};
 ghost use Rattle.mom.specs.Search.{LowerBound, OverlapsBefore, OverlapsFrom};

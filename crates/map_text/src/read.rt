@@ -12,7 +12,7 @@ pub const MAX_CELLS: usize = 2048;
 const MAX_COUNT: u64 = 4294967295;
 
 // A line `D,M,T`, with T in thousandths.
-#[derive(Drop)]
+#[derive(Clone, Copy)]
 pub enum SettingsLine {
     Settings {
         depth: u8,
@@ -23,14 +23,14 @@ pub enum SettingsLine {
 }
 
 // A line `hash,count`.
-#[derive(Drop)]
+#[derive(Clone, Copy)]
 pub enum CellLine {
     Cell { hash: u64, count: u32 },
     Unreadable,
 }
 
 // The lines behind the first: how many cells they hold, or the number of the first unreadable one.
-#[derive(Drop)]
+#[derive(Clone, Copy)]
 pub enum CellLines {
     Cells(usize),
     Unreadable(usize),

@@ -1,4 +1,6 @@
 // The words in which the C functions answer of maps, rows and densities. `words` tells what a word is.
+#![tactic(auto)]
+
 ghost use Rattle.std.specs.Prelude.{◌≡◌};
 ghost use Rattle.words.specs.Words.{fault_kind, map_check_word, containing_word, run_word, counts_word, densities_word, asked_word, moved_word, covered_word, clipped_word, rows_word, count_density_word, pattern_density_word, density_pattern_word};
 

@@ -2,7 +2,7 @@
 -- near. Of the steps of chi seven roundings stand one behind another: an inverse, three sums, 4/w, times 4 and the difference. The first six make 9 parts
 -- of 2^56 each, and dividing by w, which is not exact, makes 1, all of what is taken off, which is at most S; the last one makes 8. Together these
 -- are 63 of the 64 parts that S / 2^50 has. Assumes nothing.
-use Rattle.std.proofs.Common.{◌≡◌, ℕ, ◌+◌, ◌-◌, ◌*◌, ◌^◌, ◌<◌, ◌≤◌, Bool, true, false, cond, ◌&&◌, T, ltb, leb, List, refl, subst, mul_assoc, mul_comm, mul-pos, mul_left_comm, arith, ltb-false}
+use Rattle.std.proofs.Common.{◌≡◌, ℕ, ◌+◌, ◌*◌, ◌^◌, ◌<◌, ◌≤◌, Bool, true, false, cond, ◌&&◌, T, ltb, leb, List, refl, subst, mul_assoc, mul_comm, mul-pos, mul_left_comm, arith, ltb-false}
 use mathlib.Core.Option.{Option, none, some, some-injective, none-ne-some}
 use lib.Ieee.{Float}
 use Rattle.refusal.specs.Checks.{or_else, refused_if}

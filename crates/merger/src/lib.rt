@@ -13,6 +13,8 @@
 // (9, place: the child; -0 is accepted), counts whose sum exceeds a u32 (10). `merge_counts`,
 // `merge_narrow_counts` and `merge_densities_with` refuse nothing: they are for callers that have checked
 // their input.
+#![tactic(auto)]
+
 ghost use Rattle.std.specs.Prelude.{◌≡◌, is_nan};
 ghost use Rattle.refusal.specs.Checks.{check_of};
 ghost use Rattle.merger.specs.Merge.{merges, sum_of, quad_refusal};
@@ -32,7 +34,7 @@ pub use density_merger::{
 pub use narrow_count_merger::merge_narrow_counts;
 
 // What becomes of four counts: their parent's count, or that they are kept, with their chi-square.
-#[derive(Drop)]
+#[derive(Clone, Copy)]
 pub enum CountMerge {
     Merged(u32),
     Kept(f64),
@@ -40,21 +42,21 @@ pub enum CountMerge {
 
 // What becomes of four densities: their parent's density, or that they are kept, with their
 // chi-square.
-#[derive(Drop)]
+#[derive(Clone, Copy)]
 pub enum DensityMerge {
     Merged(f64),
     Kept(f64),
 }
 
 // What the count merger answers.
-#[derive(Drop)]
+#[derive(Clone, Copy)]
 pub enum CountMerger {
     Answer(CountMerge),
     Refused(Refusal),
 }
 
 // What the density merger answers.
-#[derive(Drop)]
+#[derive(Clone, Copy)]
 pub enum DensityMerger {
     Answer(DensityMerge),
     Refused(Refusal),

@@ -12,7 +12,6 @@ use borrow.Author.Tests.{le-ltb, le-leb, lt-leb, ltb-false, leb-false}
 use Rattle.zuniq.specs.Cells.{start, end}
 use Rattle.zuniq.specs.Codec.{IsZuniqOf, decode}
 use Rattle.refusal.specs.declared.Refusal.{Refusal}
-use Rattle.zuniq.specs.declared.Cell.{Cell}
 use Rattle.zuniq.specs.declared.Decoded.{Decoded}
 use Rattle.zuniq.proofs.Codec.{cell, decodes}
 use Rattle.mom.specs.declared.Fault.{Fault}

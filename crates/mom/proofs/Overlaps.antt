@@ -8,7 +8,6 @@ use native.Mathlib.Omega.{arith}
 use borrow.Author.Tests.{le-leb}
 use Rattle.zuniq.specs.Cells.{lies_in, overlap, start, end}
 use Rattle.zuniq.specs.Codec.{IsZuniqOf, decode, overlap_test, overlap_of}
-use Rattle.zuniq.specs.declared.Cell.{Cell}
 use Rattle.zuniq.specs.declared.Decoded.{Decoded}
 use Rattle.zuniq.proofs.Basics.{eqb-sym}
 use Rattle.zuniq.proofs.Codec.{cell, zuniq-injective, decodes}

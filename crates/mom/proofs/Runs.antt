@@ -11,7 +11,6 @@ use lib.ListN.{length, get_or, take, drop}
 use lib.Seq.{take-nil, drop-nil}
 use Rattle.zuniq.specs.Codec.{decode}
 use Rattle.refusal.specs.declared.Refusal.{Refusal}
-use Rattle.zuniq.specs.declared.Cell.{Cell}
 use Rattle.zuniq.specs.declared.Decoded.{Decoded}
 use Rattle.zuniq.proofs.Basics.{is_false}
 use Rattle.zuniq.proofs.Codec.{none_decodes}

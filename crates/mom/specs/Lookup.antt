@@ -5,7 +5,6 @@ use Rattle.std.specs.Borrow.{Bor}
 use Rattle.zuniq.specs.Cells.{lies_in}
 use Rattle.zuniq.specs.Codec.{decode}
 use Rattle.refusal.specs.declared.Refusal.{Refusal}
-use Rattle.zuniq.specs.declared.Cell.{Cell}
 use Rattle.zuniq.specs.declared.Decoded.{Decoded}
 use Rattle.mom.specs.Map.{overlaps, ValidMap}
 use Rattle.mom.specs.declared.lookup.Containing.{Containing}

@@ -2,7 +2,6 @@
 use Rattle.std.specs.Prelude.{Bool, false, ◌&&◌, ℕ, ◌*◌, ltb}
 use Rattle.zuniq.specs.Cells.{start, end}
 use Rattle.zuniq.specs.Codec.{decode}
-use Rattle.zuniq.specs.declared.Cell.{Cell}
 use Rattle.zuniq.specs.declared.Decoded.{Decoded}
 use Rattle.mom.specs.declared.ZuniqRange.{ZuniqRange}
 use Rattle.mom.specs.declared.Ranged.{Ranged}

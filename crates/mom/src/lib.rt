@@ -6,6 +6,8 @@
 // two overlap. The check tells the first place where it is not, and what is wrong there.
 //
 // Refused: a depth over 29 (number 1).
+#![tactic(auto)]
+
 ghost use Rattle.std.specs.Prelude.{◌≡◌};
 ghost use Rattle.mom.specs.Map.{first_fault, map_check};
 ghost use Rattle.mom.specs.Range.{range_of};
@@ -16,7 +18,7 @@ use zuniq::{Decoded, Zuniq64};
 pub mod lookup;
 
 // What can be wrong with an entry, in the order in which it is tried.
-#[derive(Drop)]
+#[derive(Clone, Copy)]
 pub enum Fault {
     NotZuniq,
     TooDeep,
@@ -27,7 +29,7 @@ pub enum Fault {
 }
 
 // The first faulty place with the first fault there, if there is one.
-#[derive(Drop)]
+#[derive(Clone, Copy)]
 pub enum FirstFault {
     Nothing,
     At(usize, Fault),
@@ -35,7 +37,7 @@ pub enum FirstFault {
 
 // The range of a cell, in zuniqs: those of the cells that lie in it are between the two, and its own
 // is in the middle. Each is twice the hash, at the largest depth, at which the cell starts or ends.
-#[derive(Drop)]
+#[derive(Clone, Copy)]
 pub struct ZuniqRange {
     pub depth: u8,
     pub start: u64,
@@ -43,14 +45,14 @@ pub struct ZuniqRange {
 }
 
 // The range of a zuniq's cell, or that there is none.
-#[derive(Drop)]
+#[derive(Clone, Copy)]
 pub enum Ranged {
     Range(ZuniqRange),
     Nothing,
 }
 
 // What the check answers.
-#[derive(Drop)]
+#[derive(Clone, Copy)]
 pub enum MapCheck {
     Valid,
     Faulty(usize, Fault),

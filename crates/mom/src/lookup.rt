@@ -2,7 +2,7 @@
 use refusal::Refusal;
 
 // The place of the entry that contains a query.
-#[derive(Drop)]
+#[derive(Clone, Copy)]
 pub enum Containing {
     At(usize),
     Nothing,
@@ -10,7 +10,7 @@ pub enum Containing {
 }
 
 // The entries that overlap a query: the place of the first and their number, 0 and 0 for none.
-#[derive(Drop)]
+#[derive(Clone, Copy)]
 pub enum Run {
     Entries { first: usize, len: usize },
     Refused(Refusal),
@@ -18,7 +18,7 @@ pub enum Run {
 
 // The same with the entries themselves, that very part of the lent zuniqs; empty where refused. A
 // struct that holds a slice is proved by hand, so only `get_overlapped_cells` makes one.
-#[derive(Drop)]
+#[derive(Clone, Copy)]
 pub struct Overlapped<'a> {
     pub part: &'a [u64],
     pub run: Run,

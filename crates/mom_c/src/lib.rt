@@ -7,6 +7,8 @@
 //
 // A call answers one word, which `words` makes of the library's answer. What does not fit goes through
 // a `&mut` number, which is written on acceptance alone: a refusal touches nothing.
+#![tactic(auto)]
+
 ghost use Rattle.std.specs.Prelude.{◌≡◌};
 ghost use Rattle.words.specs.Words.{cell_number_word, encoded_word, decoded_word, overlap_word, count_merger_word, density_merger_word, map_check_word};
 ghost use Rattle.mom_c.specs.Answers.{ContainingIs, RunIs, counts_added_word, densities_added_word};

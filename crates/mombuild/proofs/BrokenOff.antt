@@ -1,28 +1,20 @@
 -- The laws of a read that fails: how many lines a readable text has. Assumes nothing.
-use mathlib.Core.Path.{◌≡◌, refl, ap, sym, ◌∙◌}
+use mathlib.Core.Path.{◌≡◌, refl, ap, ◌∙◌}
 use mathlib.Core.Bool.{Bool, true, false, cond}
 use mathlib.Core.List.{List, [], ◌∷◌}
 use mathlib.Core.Option.{Option, none, some}
-use Prim.Native.Nat.{ℕ, zero, suc, ◌+◌, ◌≤◌, ◌<◌}
+use Prim.Native.Nat.{ℕ, zero, suc, ◌+◌, ◌<◌}
 use native.Mathlib.Omega.{arith}
 use native.Mathlib.Numerals.{add-one}
-use lib.Dec.{T, eqb, ltb}
-use lib.IntN.{ℤ, pos, negsuc, nat_abs}
+use lib.Dec.{eqb, ltb}
 use lib.ListN.{length, drop}
-use lib.Signed.{lt_z, mag, non_neg}
-use mir.Syntax.{w64}
-use mir.Facts.{to_z-of_z}
-use mir.Val.{of_z, to_z}
 use borrow.Author.Tests.{ltb-true}
-use Rattle.libc.specs.Io.{Moved}
 use Rattle.text.specs.Text.{lf, position, up_to, past}
-use Rattle.map_text.specs.Lines.{settings_line, first_settings, first_cell, Cells, no_cells, with_cell, unless_ended, cells, refused_text}
+use Rattle.map_text.specs.Lines.{settings_line, first_settings, first_cell, with_cell, cells, refused_text}
 use Rattle.map_text.specs.declared.read.SettingsLine.{SettingsLine}
 use Rattle.map_text.specs.declared.read.CellLine.{CellLine}
 use Rattle.map_text.proofs.Passing.{cell_ended}
-use Rattle.mombuild.specs.Mombuild.{Reading, unreadable, readable, reading_of, reading, occurrences, broken_line, broken_off, step_of, bytes_of}
-use Rattle.mombuild.specs.declared.Input.{Input}
-use Rattle.mombuild.specs.declared.Step.{Step}
+use Rattle.mombuild.specs.Mombuild.{unreadable, readable, reading_of, reading, occurrences, broken_off}
 
 -- ---- lines
 -- A line that is ended has one LF.
@@ -85,39 +77,3 @@ broken_in_line l e = rw e refl
 pub broken_behind : (l : List ℕ) {D M T : ℕ} {hs ns : List ℕ} → reading l ≡ readable D M T hs ns → refused_text 0 (length hs + 2) ≡ broken_off l
 unfolding broken_off
 broken_behind l {hs = hs} e = let lines : length hs + 2 ≡ occurrences lf l + 1 = omega (arith, readable_lines l e) in rw (e, lines) refl
-
--- ---- one read
-module _ (n : ℕ) where
-  pub step_failed : (z : ℤ) → lt_z z (pos 0) ≡ true → Step.Done (Input.Failed n) ≡ step_of z n
-  step_failed (negsuc k) e = refl
-  step_failed (pos k) e = let low = ltb-true k 0 e in absurd (omega arith)
-
-  pub step_ended : (z : ℤ) → lt_z z (pos 0) ≡ false → of_z w64 z ≡ 0 → Step.Done (Input.Read n) ≡ step_of z n
-  step_ended (negsuc k) e f = let z : ◌≡◌ {A = ℕ} 0 1 = cc in absurd (omega arith)
-  step_ended (pos zero) e f = refl
-  step_ended (pos (suc k)) e f = absurd (omega arith)
-
-  pub step_more : (z : ℤ) → lt_z z (pos 0) ≡ false → (of_z w64 z ≡ 0 → ⊥) → Step.More (nat_abs z) ≡ step_of z n
-  step_more (negsuc k) e f = let z : ◌≡◌ {A = ℕ} 0 1 = cc in absurd (omega arith)
-  step_more (pos zero) e f = absurd (f refl)
-  step_more (pos (suc k)) e f = refl
-
-pub not_negative : (z : ℤ) → lt_z z (pos 0) ≡ false → T (non_neg z)
-not_negative (negsuc k) e = let z : ◌≡◌ {A = ℕ} 0 1 = cc in absurd (omega arith)
-not_negative (pos k) e = tt
-
--- An answer is read back from its bits.
-pub read_back : (z : ℤ) → mag z < 9223372036854775808 → to_z w64 (of_z w64 z) ≡ z
-read_back z f = to_z-of_z {w = w64} {z = z} (record { sfits = f })
-
--- The end of reading leaves the bytes that were there.
-pub done_bytes : (z : ℤ) (n : ℕ) {input : Input} → step_of z n ≡ Step.Done input → bytes_of input ≡ n
-done_bytes (negsuc k) n {input} e = let same : Input.Failed n ≡ input = cc in rw (← same) refl
-done_bytes (pos zero) n {input} e = let same : Input.Read n ≡ input = cc in rw (← same) refl
-done_bytes (pos (suc k)) n e = let z : ◌≡◌ {A = ℕ} 0 1 = cc in absurd (omega arith)
-
--- More bytes are at least one, and no more than were asked for.
-pub more_bytes : (z : ℤ) (n room : ℕ) {bytes : ℕ} → step_of z n ≡ Step.More bytes → Moved room z → (1 ≤ bytes) × (bytes ≤ room)
-more_bytes (negsuc k) n room e m = let z : ◌≡◌ {A = ℕ} 0 1 = cc in absurd (omega arith)
-more_bytes (pos zero) n room e m = let z : ◌≡◌ {A = ℕ} 0 1 = cc in absurd (omega arith)
-more_bytes (pos (suc k)) n room {bytes} e m = let same : suc k ≡ bytes = cc in (omega arith, omega arith)

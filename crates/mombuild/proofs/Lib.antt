@@ -3,3 +3,4 @@ pub mod BrokenOff
 pub mod Reading
 pub mod Prefix
 pub mod MapText
+pub mod Buffered

@@ -3,7 +3,7 @@ use mathlib.Core.Path.{◌≡◌, refl, ap, sym, ◌∙◌}
 use mathlib.Core.Bool.{false}
 use mathlib.Core.List.{List}
 use mathlib.Core.Option.{Option, none, some}
-use Prim.Native.Nat.{ℕ, ◌≤◌, ◌<◌}
+use Prim.Native.Nat.{ℕ, ◌<◌}
 use native.Mathlib.Omega.{arith}
 use lib.IntN.{pos}
 use lib.Ieee as Ieee
@@ -16,7 +16,7 @@ use Rattle.text.specs.Text.{lf, position, up_to, past}
 use Rattle.mombuild.specs.Mombuild.{reading, thousandths, map_text, mombuild}
 use Rattle.mombuild.specs.Steps.{TextIs}
 use Rattle.mombuild.specs.declared.Text.{Text}
-use Rattle.map_text.specs.Lines.{settings_line, first_settings, Cells, cells, refused_text}
+use Rattle.map_text.specs.Lines.{settings_line, first_settings, cells, refused_text}
 use Rattle.map_text.specs.Steps.{cell_lines, CellsAre}
 use Rattle.map_text.specs.declared.read.SettingsLine.{SettingsLine}
 use Rattle.map_text.specs.declared.read.CellLines.{CellLines}

@@ -1,5 +1,5 @@
 -- Section 7 of the scope: what the program `mombuild` reads and prints.
-use Rattle.std.specs.Prelude.{◌≡◌, cond, List, [], ◌∷◌, ◌++◌, ℕ, zero, suc, ◌+◌, eqb, Float, ℤ, pos, negsuc, length, take, replicate}
+use Rattle.std.specs.Prelude.{◌≡◌, cond, List, [], ◌∷◌, ◌++◌, ℕ, zero, suc, ◌+◌, eqb, Float, Result, Ok, Err, length, take, replicate}
 use Rattle.std.proofs.Math.Option.{Option, none, some}
 use Rattle.refusal.specs.Refusals.{number_of, place_of}
 use Rattle.merger.specs.Floats.{◌⊘◌, float}
@@ -71,17 +71,23 @@ broken_line l (readable D M T hs ns) = occurrences lf l + 1
 unfoldable pub broken_off : List ℕ → List ℕ
 broken_off l = refused_text 0 (broken_line l (reading l))
 
--- what a read behind n bytes comes to, by its answer: "how many bytes it put at the start", "0 at the end of the input", "-1" where it failed
-abbrev pub step_of : ℤ → ℕ → Step
-step_of (negsuc k) n = Step.Done (Input.Failed n)
-step_of (pos zero) n = Step.Done (Input.Read n)
-step_of (pos (suc k)) n = Step.More (suc k)
+-- what a read behind n bytes comes to, by its answer: how many bytes it put at the start, 0 at the end of the input, an error where it failed
+abbrev pub step_of : {E : Type 0} → Result ℕ E → ℕ → Step
+step_of (Err e) n = Step.Done (Input.Failed n)
+step_of (Ok zero) n = Step.Done (Input.Read n)
+step_of (Ok (suc k)) n = Step.More (suc k)
 
 -- ---- the buffers
 -- how many bytes were read
 abbrev pub bytes_of : Input → ℕ
 bytes_of (Input.Read n) = n
 bytes_of (Input.Failed n) = n
+
+-- What stands in a buffer once an input is read into it: the input's first bytes, as many as the buffer has places, and so all of it where a
+-- place is left; where a read failed behind so many, those.
+abbrev pub HoldsInput : Input → (buffer whole : List ℕ) → Type 0
+HoldsInput (Input.Read n) buffer whole = take n buffer ≡ take (length buffer) whole
+HoldsInput (Input.Failed n) buffer whole = take n buffer ≡ take n whole
 
 -- What is written for an input of which so many bytes stand in the program's buffer: what the whole input asks for, whatever it is. The bytes
 -- are its first ones, as many as the buffer has places, and so all of it where a place is left.

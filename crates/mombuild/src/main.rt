@@ -13,20 +13,23 @@
 //     5,0
 //
 // A read that fails is told as an unreadable line, that in which it broke off, and never taken for the
-// end of the text.
+// end of the text. A write that fails ends the program with that error.
 //
 // The work is done by `print_input`, on the program's buffers; `main` only reads, calls it and writes.
-ghost use Rattle.std.specs.Prelude.{◌≡◌, ◌≤◌, length};
+#![tactic(auto)]
+
+ghost use Rattle.std.specs.Prelude.{◌≡◌, ◌≤◌, length, IfSome};
 ghost use Rattle.io.specs.Counts.{IsPrefixLen};
 ghost use Rattle.text.specs.Text.{Written};
-ghost use Rattle.mombuild.specs.Mombuild.{mombuild as mombuild_of, broken_off, map_text, answer_text, bytes_of, step_of, PrintedFor};
+ghost use Rattle.mombuild.specs.Mombuild.{mombuild as mombuild_of, broken_off, map_text, answer_text, bytes_of, step_of, HoldsInput, PrintedFor};
 ghost use Rattle.mombuild.specs.Steps.{TextIs};
 
 use build::counts::CountsAdded;
 use build_counts::add_counts;
-use libc::{STDIN_FILENO, STDOUT_FILENO};
 use map_text::print::{MAX_OUTPUT, print_map, print_refused};
 use map_text::read::{CellLines, MAX_CELLS, SettingsLine, read_cells, read_settings};
+use std::io;
+use std::io::Read;
 use text::{LF, find};
 
 // The number that is printed for an unreadable text.
@@ -38,21 +41,21 @@ const MAX_INPUT: usize = 63 + 42 * MAX_CELLS + 1;
 
 // What could be read of the input: it ends behind so many bytes, or goes on where they fill the
 // buffer; or a read failed behind so many.
-#[derive(Drop)]
+#[derive(Clone, Copy)]
 enum Input {
     Read(usize),
     Failed(usize),
 }
 
 // What one read comes to: so many bytes more, or the end of reading.
-#[derive(Drop)]
+#[derive(Clone, Copy)]
 enum Step {
     More(usize),
     Done(Input),
 }
 
 // The numbers of a text, its cells standing in two buffers, or its first unreadable line.
-#[derive(Drop)]
+#[derive(Clone, Copy)]
 enum Text {
     Readable {
         depth: u8,
@@ -63,21 +66,22 @@ enum Text {
     Unreadable(usize),
 }
 
-fn main() {
+fn main(rt: HostRuntime) -> io::Result<()> {
     let mut buffer = [0u8; MAX_INPUT];
-    let input = read_input(&mut buffer);
+    let input = read_input(&mut rt.stdin(), &mut buffer);
     let mut output = [0u8; MAX_OUTPUT];
     let end = print_input(&buffer, input, &mut output);
-    io::write_all(STDOUT_FILENO, &output[..end]);
+    rt.write_all(&output[..end])
 }
 
-// Reads the standard input until the buffer is full, the input ends or a read fails.
-fn read_input(buffer: &mut [u8]) -> Input
-    ensures { bytes_of result ≤ length buffer.new }
+// Reads until the buffer is full, the input ends or a read fails.
+fn read_input<R: Read>(reader: &mut R, buffer: &mut [u8]) -> Input
+    ensures within { bytes_of result ≤ length buffer.new }
+    ensures first_bytes { IfSome (R.remaining reader.old) (HoldsInput result buffer.new) }
 {
     let mut n = 0;
     while n < buffer.len() {
-        let answer = libc::read(STDIN_FILENO, &mut buffer[n..]);
+        let answer = reader.read(&mut buffer[n..]);
         match step_of(answer, n) {
             Step::Done(input) => return input,
             Step::More(bytes) => n += bytes,
@@ -86,17 +90,17 @@ fn read_input(buffer: &mut [u8]) -> Input
     Input::Read(n)
 }
 
-// What a read behind n bytes answered: a negative number where it failed, 0 at the end.
-fn step_of(answer: isize, n: usize) -> Step
-    ensures { result ≡ step_of «answer» n }
+// What a read behind n bytes answered: an error where it failed, 0 at the end.
+fn step_of(answer: io::Result<usize>, n: usize) -> Step
+    ensures { result ≡ step_of answer n }
 {
-    if answer < 0 {
+    let Ok(bytes) = answer else {
         return Step::Done(Input::Failed(n));
-    }
-    if answer == 0 {
+    };
+    if bytes == 0 {
         return Step::Done(Input::Read(n));
     }
-    Step::More(answer as usize)
+    Step::More(bytes)
 }
 
 // Writes what is printed for an input to the front of a buffer; answers its length.

@@ -9,6 +9,8 @@
 // Refused: a depth over 29, of a narrow map over 13 (number 1); zuniqs and counts that are not equally
 // many, in the map or in the output (4); an invalid map (5, place the entry); an entry to be narrowed
 // that is deeper than 13 (13, place the entry); fewer places in the output than entries (11).
+#![tactic(auto)]
+
 ghost use Rattle.std.specs.Prelude.{◌≡◌, map, ◌*◌, ◌/◌, ◌^◌, ◌≤◌, min, length, take};
 ghost use Rattle.zuniq.specs.Codec.{decode};
 ghost use Rattle.refusal.specs.Checks.{check_of};
@@ -24,7 +26,7 @@ use zuniq::{Decoded, Zuniq64};
 
 // What moving answers: the depth and the number of entries of the map in the output, or why it is
 // refused.
-#[derive(Drop)]
+#[derive(Clone, Copy)]
 pub enum Moved {
     Map { depth: u8, entries: usize },
     Refused(Refusal),

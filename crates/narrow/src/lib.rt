@@ -5,6 +5,8 @@
 // narrow zuniqs.
 //
 // Refused: a depth over 13 (number 1).
+#![tactic(auto)]
+
 ghost use Rattle.std.specs.Prelude.{◌≡◌};
 ghost use Rattle.mom.specs.Map.{first_fault, map_check};
 ghost use Rattle.mom.specs.Range.{range_of};

@@ -18,7 +18,7 @@ use refusal::Refusal;
 use zuniq::narrow::Zuniq32;
 
 // The entries that overlap a query, with that very part of the lent zuniqs; empty where refused.
-#[derive(Drop)]
+#[derive(Clone, Copy)]
 pub struct Overlapped<'a> {
     pub part: &'a [u32],
     pub run: Run,

@@ -6,6 +6,8 @@
 //
 // Refused: a depth over 13 (number 1); M over 29 (2), since note 2 leaves that row alone; then as in
 // `build_counts`.
+#![tactic(auto)]
+
 ghost use Rattle.std.specs.Prelude.{◌≡◌, ◌+◌, ◌-◌, ◌≤◌, ◌<◌, ◌%◌, length, get_or, set, take};
 ghost use mathlib.Core.List.{reverse_aux};
 ghost use Rattle.zuniq.specs.Cells.{n_hash};

@@ -6,6 +6,8 @@
 //
 // `ask` is built on the parts: what is refused before the overlay is walked, what the pool comes to, and
 // the pool of maps whose cells are counted.
+#![tactic(auto)]
+
 ghost use Rattle.std.specs.Prelude.{◌≡◌, [], ◌+◌, ◌≤◌, length};
 ghost use Rattle.protection.specs.Protected.{RisingList};
 ghost use Rattle.merger.specs.Merge.{accept_counts};

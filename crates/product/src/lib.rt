@@ -5,6 +5,8 @@
 // A call looks at everything before it writes anything: one pass over the protected parents and one over
 // each map, then the overlay is walked once to count its cells and try their products, and once more to
 // merge them.
+#![tactic(auto)]
+
 ghost use Rattle.std.specs.Prelude.{◌≡◌, length};
 ghost use Rattle.refusal.specs.Checks.{or_else, check_of};
 ghost use Rattle.protection.specs.Protected.{RisingList};

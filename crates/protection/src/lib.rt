@@ -6,6 +6,8 @@
 //
 // Refused: a listed value that is not a valid zuniq, or not above the one before (number 15, place: its
 // index).
+#![tactic(auto)]
+
 ghost use Rattle.std.specs.Prelude.{◌≡◌, ◌≤◌, ◌<◌};
 ghost use Rattle.refusal.specs.Checks.{check_of};
 ghost use Rattle.zuniq.specs.Cells.{n_hash};

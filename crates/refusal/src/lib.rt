@@ -1,12 +1,14 @@
 // Why a call is refused. All calls of the library share this type; each names the cases it gives.
 // A refusal touches no lent memory.
+#![tactic(auto)]
+
 ghost use Rattle.std.specs.Prelude.{◌≡◌};
 ghost use Rattle.refusal.specs.Refusals.{number_of, place_of};
 
 // A case for each thing that can be wrong, in checking order. A case that has a place holds it:
 // the parent of a list, the entry of a map, the range of a coverage, the cell of a batch, the child of a
 // merger's four, the query of a test's two.
-#[derive(Drop)]
+#[derive(Clone, Copy)]
 pub enum Refusal {
     // The depth is over the largest, or a merger's parent depth is the largest.
     DepthOutOfRange,
@@ -48,7 +50,7 @@ pub enum Refusal {
 }
 
 // Whether a call passes a check.
-#[derive(Drop)]
+#[derive(Clone, Copy)]
 pub enum Check {
     Passed,
     Refused(Refusal),

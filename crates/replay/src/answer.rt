@@ -4,7 +4,7 @@ use crate::line::MOST;
 use refusal::Refusal;
 
 // The case of an answer.
-#[derive(Drop)]
+#[derive(Clone, Copy)]
 pub enum Said {
     // The numbers given are no arguments of the call: one is missing, or too large for its field.
     Unreadable,
@@ -25,7 +25,7 @@ pub enum Said {
     Overlapping,
 }
 
-#[derive(Drop)]
+#[derive(Clone, Copy)]
 pub struct Answer {
     pub said: Said,
     // `count` numbers, and 0 in the places after them; of the longest answers the first MOST.

@@ -18,7 +18,7 @@ pub const MAX_COUNT: u64 = 0xffff_ffff;
 pub const MAX_LONG: u64 = 0xffff_ffff_ffff_ffff;
 
 // A list of a line, with 0 in the places after its items, and the place in the line behind it.
-#[derive(Drop)]
+#[derive(Clone, Copy)]
 pub struct Longs {
     pub items: [u64; MOST_ITEMS],
     pub len: usize,
@@ -26,19 +26,19 @@ pub struct Longs {
 }
 
 // The same as counts, bytes or f64s.
-#[derive(Drop)]
+#[derive(Clone, Copy)]
 pub struct CountItems {
     pub items: [u32; MOST_ITEMS],
     pub len: usize,
 }
 
-#[derive(Drop)]
+#[derive(Clone, Copy)]
 pub struct ByteItems {
     pub items: [u8; MOST_ITEMS],
     pub len: usize,
 }
 
-#[derive(Drop)]
+#[derive(Clone, Copy)]
 pub struct FloatItems {
     pub items: [f64; MOST_ITEMS],
     pub len: usize,

@@ -9,7 +9,7 @@ use build::densities::DensitiesAdded;
 
 // D, M and T, in front of the protected parents, the number held behind them, and the place in the line
 // behind that, from which on the four lists stand.
-#[derive(Drop)]
+#[derive(Clone, Copy)]
 pub struct Settings {
     pub depth: u8,
     pub depth_threshold: u8,
@@ -18,7 +18,7 @@ pub struct Settings {
     pub next: usize,
 }
 
-#[derive(Drop)]
+#[derive(Clone, Copy)]
 pub enum Read {
     Settings(Settings),
     Unreadable,

@@ -8,7 +8,7 @@ use crate::building::densities_added;
 use crate::floats::float_of;
 
 // M, T and k, which a pool has no use for, and the place in the line behind them.
-#[derive(Drop)]
+#[derive(Clone, Copy)]
 pub struct Settings {
     pub depth_threshold: u8,
     pub chi2_threshold: f64,
@@ -16,7 +16,7 @@ pub struct Settings {
     pub next: usize,
 }
 
-#[derive(Drop)]
+#[derive(Clone, Copy)]
 pub enum Read {
     Settings(Settings),
     Unreadable,

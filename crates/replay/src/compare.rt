@@ -6,7 +6,7 @@ use crate::kind::Kind;
 use crate::line::MOST;
 
 // How a line fares. A refusal is a difference, whatever is stored: the original refuses nothing.
-#[derive(Drop)]
+#[derive(Clone, Copy)]
 pub enum Outcome {
     Same,
     Different,

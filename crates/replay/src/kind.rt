@@ -6,9 +6,9 @@ ghost use Rattle.std.specs.Prelude.{◌<◌};
 ghost use Rattle.replay.specs.Kinds.{kinds};
 
 use crate::line::find;
-use libc::STDOUT_FILENO;
+use std::io;
 
-#[derive(Drop)]
+#[derive(Clone, Copy)]
 pub enum Kind {
     NHash,
     ToZuniq,
@@ -50,7 +50,7 @@ pub enum Kind {
 }
 
 // What a word names.
-#[derive(Drop)]
+#[derive(Clone, Copy)]
 pub enum Named {
     Kind(Kind),
     Nothing,
@@ -197,10 +197,10 @@ impl Kind {
     }
 
     // Writes the word to standard output.
-    pub(crate) fn print(self) {
+    pub(crate) fn print(self, rt: &impl Print) -> io::Result<()> {
         let filled = self.word();
         let end = find(&filled, 0, b' ');
-        io::write_all(STDOUT_FILENO, &filled[..end]);
+        rt.write_all(&filled[..end])
     }
 }
 

@@ -12,7 +12,7 @@ pub const MOST: usize = 128;
 
 // A line that was read: `count` numbers, and 0 in the places after them. One that is unreadable
 // names nothing; the borrow checker has no rule for an enum with a case that holds the array.
-#[derive(Drop)]
+#[derive(Clone, Copy)]
 pub struct Line {
     pub named: Named,
     pub numbers: [u64; MOST],
@@ -21,14 +21,14 @@ pub struct Line {
 
 // What stands where a number is looked for: one, and the position behind it, or none that fits a
 // u64.
-#[derive(Drop)]
+#[derive(Clone, Copy)]
 pub enum Number {
     Read { value: u64, next: usize },
     Unreadable,
 }
 
 // A number with one more digit behind it, if that is one and the number is not too large.
-#[derive(Drop)]
+#[derive(Clone, Copy)]
 enum Longer {
     To(u64),
     TooLarge,

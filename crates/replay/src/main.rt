@@ -16,8 +16,12 @@
 // - Any other has the numbers that the original Rust answered behind the arguments.
 //
 // Unreadable is a line with an unknown word or a foreign byte, with an argument too few or too large
-// for its field, or without LF. An input of 327,680 bytes or more is not replayed at all.
+// for its field, or without LF. An input of 327,680 bytes or more is not replayed at all. Nor is one
+// where a read fails, and where a write fails the program ends with that error.
+#![tactic(auto)]
+
 ghost use Rattle.std.specs.Prelude.{◌≤◌, length};
+ghost use Rattle.std.specs.Io.{ReadsAtMost};
 
 mod answer;
 mod arguments;
@@ -42,81 +46,102 @@ mod pooling;
 mod print;
 mod reach;
 mod reading;
-mod tally;
+mod tallying;
 mod widths;
 mod writing;
 
 use answer::Answer;
 use call::call;
 use kind::Named;
-use libc::{STDIN_FILENO, STDOUT_FILENO};
 use line::{find, read};
 use print::print_answer;
-use tally::Tally;
+use std::io;
+use std::io::Read;
+use tallying::Tally;
 
 // The input has some 277,000 bytes.
 const MAX_INPUT: usize = 327_680;
 
-fn main() {
+fn main(rt: HostRuntime) -> io::Result<()> {
     let mut buffer = [0u8; MAX_INPUT];
-    let length = io::read_full(STDIN_FILENO, &mut buffer);
+    let length = read_full(&mut rt.stdin(), &mut buffer)?;
     // A full buffer may hold no more than the start of the input.
     if length == buffer.len() {
-        io::write_all(STDOUT_FILENO, b"the input is too long\n");
-        return;
+        return rt.println("the input is too long");
     }
-    let tally = replay(&buffer[..length]);
-    tally.print();
+    let tally = replay(&rt, &buffer[..length])?;
+    tally.print(&rt)
+}
+
+// Reads until the buffer is full or the input ends, and answers how many bytes that was.
+fn read_full<R: Read>(reader: &mut R, buffer: &mut [u8]) -> io::Result<usize>
+    ensures { ReadsAtMost result buffer.new }
+{
+    let mut n = 0;
+    while n < buffer.len() {
+        let bytes = reader.read(&mut buffer[n..])?;
+        if bytes == 0 {
+            break;
+        }
+        n += bytes;
+    }
+    Ok(n)
 }
 
 // The tally of all lines.
-fn replay(text: &[u8]) -> Tally {
+fn replay(rt: &impl Print, text: &[u8]) -> io::Result<Tally> {
     let mut tally = Tally::new();
     let mut number: u64 = 0;
     let mut at = 0;
     while at < text.len() {
         number += 1;
         let end = find(text, at, b'\n');
-        tally = with_line(tally, number, text, at, end);
+        tally = with_line(rt, tally, number, text, at, end)?;
         at = end + 1;
     }
-    tally
+    Ok(tally)
 }
 
 // The tally with the line that stands from `at` to `end`. One that no LF ends may have lost digits,
 // and is unreadable whatever it holds.
-fn with_line(tally: Tally, number: u64, text: &[u8], at: usize, end: usize) -> Tally
+fn with_line(
+    rt: &impl Print,
+    tally: Tally,
+    number: u64,
+    text: &[u8],
+    at: usize,
+    end: usize,
+) -> io::Result<Tally>
     requires { (at ≤ end) × (end ≤ length text.now) }
 {
     if end == text.len() {
-        return tally.with_unreadable(number);
+        return Ok(tally.with_unreadable(number));
     }
     if at == end || text[at] == b'#' {
-        print_line(&text[at..end]);
-        return tally;
+        print_line(rt, &text[at..end])?;
+        return Ok(tally);
     }
     if text[at] == b'?' {
-        print_asked(&text[at..end]);
-        return tally;
+        print_asked(rt, &text[at..end])?;
+        return Ok(tally);
     }
-    with_stored(tally, number, &text[at..end])
+    Ok(with_stored(tally, number, &text[at..end]))
 }
 
-fn print_line(line: &[u8]) {
-    io::write_all(STDOUT_FILENO, line);
-    io::write_all(STDOUT_FILENO, b"\n");
+fn print_line(rt: &impl Print, line: &[u8]) -> io::Result<()> {
+    rt.write_all(line)?;
+    rt.write_all(b"\n")
 }
 
 // The call behind the question mark, and its answer.
-fn print_asked(line: &[u8]) {
+fn print_asked(rt: &impl Print, line: &[u8]) -> io::Result<()> {
     if line.len() < 2 {
-        print_line(line);
-        return;
+        return print_line(rt, line);
     }
-    io::write_all(STDOUT_FILENO, &line[2..]);
-    io::write_all(STDOUT_FILENO, b" = ");
-    print_answer(answer_to(&line[2..]));
-    io::write_all(STDOUT_FILENO, b"\n");
+    rt.write_all(&line[2..])?;
+    rt.write_all(b" = ")?;
+    print_answer(rt, answer_to(&line[2..]))?;
+    rt.write_all(b"\n")
 }
 
 // The answer to a call that is asked for by its arguments alone.

@@ -6,7 +6,7 @@ use merger::{CountMerge, CountMerger, DensityMerge, DensityMerger};
 
 // P, the hash, M and T, in front of the protected parents, the four values behind them, and the place
 // in the line behind those.
-#[derive(Drop)]
+#[derive(Clone, Copy)]
 struct Quad {
     parent_depth: u8,
     parent_hash: u64,
@@ -19,7 +19,7 @@ struct Quad {
     next: usize,
 }
 
-#[derive(Drop)]
+#[derive(Clone, Copy)]
 enum Read {
     Quad(Quad),
     Unreadable,

@@ -9,7 +9,7 @@ use crate::combining::{Read, Settings, settings_at};
 use combine::counts::{Asked, Figures};
 
 // What is made of two maps.
-#[derive(Drop)]
+#[derive(Clone, Copy)]
 enum Pooling {
     Pool,
     Ask,
@@ -17,7 +17,7 @@ enum Pooling {
 }
 
 // The figures that a commit is given, and the place in the line behind them.
-#[derive(Drop)]
+#[derive(Clone, Copy)]
 struct Given {
     figures: Figures,
     next: usize,

@@ -57,7 +57,8 @@ module _ (front : List Column) (c : Column) (back : List Column) where
   unfolding rows_bytes numbers_in
   numbers_again rest zero l b = refl
   numbers_again rest (suc n) l b =
-      rw (append_assoc (rows_bytes table n) (row_bytes table n) rest, numbers_again (row_bytes table n ++ rest) n (omega arith) b, number_again rest n b) (sym (take-suc c.numbers n 0 l))
+      ap (λ (bytes : List ℕ). numbers_in (row_size table) (row_size front) c.width bytes (suc n)) (append_assoc (rows_bytes table n) (row_bytes table n) rest)
+      ∙ rw (numbers_again (row_bytes table n ++ rest) n (omega arith) b, number_again rest n b) (sym (take-suc c.numbers n 0 l))
 
   -- all of a column
   column_again : (n : ℕ) → length c.numbers ≡ n → Below (256 ^ c.width) c.numbers → numbers_in (row_size table) (row_size front) c.width (rows_bytes table n) n ≡ c.numbers

@@ -12,6 +12,8 @@
 // Refused: paired buffers that differ in length, and bytes to be read that are no whole number of
 // rows (number 4), then too little space (11). A refusal touches nothing; what is past the rows
 // stays as it was.
+#![tactic(auto)]
+
 ghost use Rattle.std.specs.Prelude.{◌≡◌, get_or};
 ghost use Rattle.rows.specs.Rows.{zuniqs_of, count_rows, density_rows, narrow_rows, read_rows, write_rows};
 
@@ -26,7 +28,7 @@ use reading::{read_u32_column, read_u64_column, rows_to_read};
 use writing::rows_to_write;
 
 // How many rows were read or written.
-#[derive(Drop)]
+#[derive(Clone, Copy)]
 pub enum Rows {
     Rows(usize),
     Refused(Refusal),

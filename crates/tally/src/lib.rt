@@ -6,6 +6,8 @@
 // siblings, and none is the last of four. So there are at most three for each depth from 1 on, 87 in
 // all. A gap, a lone cell that is not the first of four, and four siblings that are not merged settle
 // all before them: what is settled is only counted.
+#![tactic(auto)]
+
 ghost use Rattle.std.specs.Prelude.{◌≡◌, ◌+◌, ◌-◌, ◌^◌, ◌≤◌, ◌<◌, length, get_or};
 ghost use Rattle.zuniq.specs.Codec.{decode};
 ghost use Rattle.protection.specs.Protected.{RisingList};
@@ -20,7 +22,7 @@ use zuniq::{Decoded, Zuniq64};
 pub const PLACES: usize = 88;
 
 // The figures so far.
-#[derive(Drop)]
+#[derive(Clone, Copy)]
 pub struct Running {
     // Cells.
     pub cells: usize,

@@ -5,6 +5,8 @@
 // field allows. It is written with its digits alone. What is written goes to a place of a lent
 // buffer, and each call answers the place behind it. What does not fit there is not written, not
 // even its first bytes.
+#![tactic(auto)]
+
 ghost use Rattle.std.specs.Prelude.{◌≡◌};
 ghost use Rattle.io.specs.Counts.{IsPrefixLen};
 ghost use Rattle.text.specs.Text.{position, number, longer as longer_of, decimal, put_at};
@@ -17,7 +19,7 @@ pub const COMMA: u8 = b',';
 const MAX_DIGITS: usize = 20;
 
 // What a field holds.
-#[derive(Drop)]
+#[derive(Clone, Copy)]
 pub enum Number {
     Value(u64),
     Unreadable,

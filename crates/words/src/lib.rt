@@ -6,6 +6,8 @@
 // is nothing, leaves it as it was.
 //
 // Here are the words of cells and mergers; `map_words` has those of maps, rows and densities.
+#![tactic(auto)]
+
 ghost use Rattle.std.specs.Prelude.{◌≡◌};
 ghost use Rattle.words.specs.Words.{word_of, refusal_word, cell_number_word, encoded_word, encoded32_word, decoded_word, decoded32_word, overlap_word, count_merger_word, density_merger_word};
 

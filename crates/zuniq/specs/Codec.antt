@@ -3,7 +3,6 @@
 use Rattle.std.specs.Prelude.{Bool, ◌&&◌, cond, ◌≡◌, ℕ, zero, suc, ◌+◌, ◌*◌, ◌/◌, ◌-◌, ◌^◌, ◌≤◌, ◌<◌, eqb, leb, ltb}
 use Rattle.zuniq.specs.Cells.{n_hash, overlap}
 use Rattle.refusal.specs.declared.Refusal.{Refusal}
-use Rattle.zuniq.specs.declared.Cell.{Cell}
 use Rattle.zuniq.specs.declared.CellNumber.{CellNumber}
 use Rattle.zuniq.specs.declared.Encoded.{Encoded}
 use Rattle.zuniq.specs.declared.Decoded.{Decoded}

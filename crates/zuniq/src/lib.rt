@@ -7,6 +7,8 @@
 //
 // Refused: a depth over 29 (number 1), a hash that the depth does not have (7), and in the overlap
 // test a value that is no zuniq (12, place 0 or 1).
+#![tactic(auto)]
+
 ghost use Rattle.std.specs.Prelude.{◌≡◌, ◌≤◌, ◌<◌};
 ghost use Rattle.zuniq.specs.Cells.{n_hash, overlap};
 ghost use Rattle.zuniq.specs.Codec.{zuniq, cell_number, encode, decode, overlap_test};
@@ -16,35 +18,35 @@ use refusal::Refusal;
 pub mod narrow;
 
 // A cell of the sky.
-#[derive(Drop)]
+#[derive(Clone, Copy)]
 pub struct Cell {
     pub depth: u8,
     pub hash: u64,
 }
 
 // How many cells a depth has.
-#[derive(Drop)]
+#[derive(Clone, Copy)]
 pub enum CellNumber {
     Cells(u64),
     Refused(Refusal),
 }
 
 // What encoding a cell answers.
-#[derive(Drop)]
+#[derive(Clone, Copy)]
 pub enum Encoded {
     Zuniq(u64),
     Refused(Refusal),
 }
 
 // What decoding a zuniq answers: the cell, or that there is none.
-#[derive(Drop)]
+#[derive(Clone, Copy)]
 pub enum Decoded {
     Cell(Cell),
     Nothing,
 }
 
 // Whether two zuniqs overlap.
-#[derive(Drop)]
+#[derive(Clone, Copy)]
 pub enum Overlap {
     Answer(bool),
     Refused(Refusal),
@@ -70,7 +72,7 @@ pub fn n_hash_unchecked(depth: u8) -> u64
 }
 
 // Zuniqs in a u64; the constants are those of the source's trait `ZUniqHashT`.
-#[derive(Drop)]
+#[derive(Clone, Copy)]
 pub struct Zuniq64;
 
 impl Zuniq64 {

@@ -14,28 +14,28 @@ use crate::{Overlap, are_overlapping_cells, n_hash_unchecked};
 use refusal::Refusal;
 
 // A cell of a depth up to 13.
-#[derive(Drop)]
+#[derive(Clone, Copy)]
 pub struct Cell32 {
     pub depth: u8,
     pub hash: u32,
 }
 
 // What encoding a cell as a narrow zuniq answers.
-#[derive(Drop)]
+#[derive(Clone, Copy)]
 pub enum Encoded32 {
     Zuniq(u32),
     Refused(Refusal),
 }
 
 // What decoding a narrow zuniq answers: the cell, or that there is none.
-#[derive(Drop)]
+#[derive(Clone, Copy)]
 pub enum Decoded32 {
     Cell(Cell32),
     Nothing,
 }
 
 // Zuniqs in a u32; the constants are those of the source's trait `ZUniqHashT`.
-#[derive(Drop)]
+#[derive(Clone, Copy)]
 pub struct Zuniq32;
 
 impl Zuniq32 {

@@ -17,11 +17,13 @@ use std::{
 fn program() -> PathBuf {
     let path = match env::var_os("MOMBUILD") {
         Some(path) => PathBuf::from(path),
-        None => PathBuf::from(env!("CARGO_MANIFEST_DIR")).join("../../target/bin/mombuild"),
+        None => {
+            PathBuf::from(env!("CARGO_MANIFEST_DIR")).join("../../crates/mombuild/out/mombuild")
+        }
     };
     assert!(
         path.is_file(),
-        "{} is not there: run `rt check mombuild` in the repository, or set MOMBUILD",
+        "{} is not there: run `rt run` in crates/mombuild of the repository, or set MOMBUILD",
         path.display()
     );
     path

@@ -20,14 +20,14 @@ const LINES: u64 = 2048;
 pub fn run(plan: Plan) {
     let ours = PathBuf::from(concat!(
         env!("CARGO_MANIFEST_DIR"),
-        "/../../target/bin/mombuild"
+        "/../../crates/mombuild/out/mombuild"
     ));
     let theirs = std::env::current_exe()
         .unwrap()
         .with_file_name("original_mombuild");
     assert!(
         ours.is_file(),
-        "mombuild is not built: `rt check mombuild` makes it"
+        "mombuild is not built: `rt run` in crates/mombuild makes it"
     );
     heading("mombuild", "line", "lines");
     let mut random = Random::new(6);

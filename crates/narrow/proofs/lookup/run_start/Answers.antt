@@ -1,0 +1,24 @@
+-- `run_start` meets its contract. The invariant of its loop: the entries from `first` on and before the place
+-- overlap the query. The measure is `first`. Assumes nothing.
+use mathlib.Core.Path.{sym, ◌∙◌}
+use native.Mathlib.Omega.{arith}
+use Rattle.mom.proofs.Searching.{found_none_before, found_before, starts_behind, starts_at_0}
+use Rattle.narrow.proofs.lookup.run_start.Goals as goal
+
+pub loop-first-init : goal.loop-first-init
+loop-first-init c = found_none_before
+
+pub bounds-zuniqs-first : goal.bounds-zuniqs-first
+bounds-zuniqs-first c = omega arith
+
+pub returns-then-not-is_overlapped : goal.returns-then-not-is_overlapped
+returns-then-not-is_overlapped c = starts_behind c.loop-first.invariant (sym c.is_overlapped.ensures ∙ c.if-not-is_overlapped.true)
+
+pub loop-first-smaller : goal.loop-first-smaller
+loop-first-smaller c = omega arith
+
+pub loop-first-preserved : goal.loop-first-preserved
+loop-first-preserved c = found_before c.loop-first.invariant (omega (arith, c.loop-first-test.true)) (sym c.is_overlapped.ensures ∙ c.if-not-is_overlapped.false)
+
+pub returns : goal.returns
+returns c = starts_at_0 c.loop-first.invariant (omega (arith, c.loop-first-test.false))
