@@ -16,8 +16,8 @@ pub enum Run {
     Refused(Refusal),
 }
 
-// The same with the entries themselves, that very part of the lent zuniqs; empty where refused. A
-// struct that holds a slice is proved by hand, so only `get_overlapped_cells` makes one.
+// The same with the entries themselves, that very part of the lent zuniqs; empty where refused.
+// Only `get_overlapped_cells` makes one.
 #[derive(Clone, Copy)]
 pub struct Overlapped<'a> {
     pub part: &'a [u64],

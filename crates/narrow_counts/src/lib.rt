@@ -1,8 +1,8 @@
 // Adding counts to a narrow map: section 4 of the scope for zuniqs in a u32, note 2 of document 02.
 //
 // The largest depth is 13. Everything else is as in `build_counts`, whose code this is for u32 zuniqs and
-// hashes: the language has no generics. Shared are the checks of settings, lengths, totals
-// and space, and the free part of the buffers; definitions and laws are those of `build`, at 13.
+// hashes. Shared are the checks of settings, lengths, totals and space, and the free part of the
+// buffers; definitions and laws are those of `build`, at 13.
 //
 // Refused: a depth over 13 (number 1); M over 29 (2), since note 2 leaves that row alone; then as in
 // `build_counts`.

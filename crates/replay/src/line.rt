@@ -11,7 +11,7 @@ use crate::kind::{Kind, Named, named_by};
 pub const MOST: usize = 128;
 
 // A line that was read: `count` numbers, and 0 in the places after them. One that is unreadable
-// names nothing; the borrow checker has no rule for an enum with a case that holds the array.
+// names nothing.
 #[derive(Clone, Copy)]
 pub struct Line {
     pub named: Named,

@@ -1,5 +1,5 @@
-// `get_overlapped_cells` hands back a struct that holds a part of the map. A function over such a
-// struct is proved by hand: this one takes it apart, and is all that knows of it.
+// `get_overlapped_cells` hands back a struct that holds a part of the map. This function takes it
+// apart, and is all that knows of it.
 use crate::answer::Answer;
 use lookup::get_overlapped_cells;
 use mom::lookup::Run;
