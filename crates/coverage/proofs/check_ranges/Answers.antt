@@ -8,8 +8,6 @@ use Rattle.refusal.specs.Checks.{check_of}
 use Rattle.coverage.proofs.Given.{one_true, none_true, faulty_here, passed_here, passed_all}
 use Rattle.coverage.proofs.check_ranges.Goals as goal
 
--- ---- points on the way: the number of cells is known, a turn has its range, and that passes
-
 pub loop-i-init : goal.loop-i-init
 loop-i-init c = (omega arith, refl)
 

@@ -8,8 +8,6 @@ use Rattle.coverage.proofs.Joining.{renumber, Joining-start, Joining-end, Joinin
 use Rattle.coverage.proofs.count_ranges.Goals as goal
 use Rattle.coverage.proofs.count_ranges.Goals.{then-range-end_before, else-range-end_before}
 
--- a turn that has the range of its entry
-
 pub loop-i-init : goal.loop-i-init
 loop-i-init c = ([], Joining-start c.args.zuniqs.now)
 

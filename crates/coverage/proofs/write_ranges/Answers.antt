@@ -7,8 +7,6 @@ use Rattle.coverage.proofs.write_ranges.Goals as goal
 use Rattle.coverage.proofs.write_ranges.Goals.{then-range-end_before, else-range-end_before}
 use Rattle.coverage.proofs.write_ranges.Goals.{Else-range-end_before, Then-range-end_before}
 
--- ---- points on the way: a turn, and one that has the range of its entry
-
 pub loop-i-init : goal.loop-i-init
 loop-i-init c = writing_start _ _ _
 

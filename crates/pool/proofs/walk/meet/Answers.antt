@@ -4,13 +4,6 @@ use Rattle.combine.proofs.Heads.{left_before, right_before, left_around, same_ce
 use native.Mathlib.Omega.{arith}
 use Rattle.pool.proofs.walk.meet.Goals as goal
 
--- ---- points on the way
--- a is no deeper than b, and compared with the ancestor of b
-
--- the two are compared the other way round
-
--- a is deeper than b, and its ancestor compared with b
-
 pub returns-then-a-ancestor : goal.returns-then-a-ancestor
 returns-then-a-ancestor c =
     left_before as_entry 29 c.args.a c.args.b c.if-a-b.true c.requires.1 c.if-a-ancestor.true

@@ -8,8 +8,6 @@ use Rattle.combine.specs.Densities.{as_entry, zuniq_in, head_of}
 use Rattle.combine.proofs.Heads.{entry_known}
 use Rattle.product.proofs.walk.next.Goals as goal
 
--- the start, from where the next entry has been looked at
-
 pub returns-then-not-side : goal.returns-then-not-side
 returns-then-not-side c = stays (sym (not-not _) ∙ ap not c.if-not-side.true) refl
 
