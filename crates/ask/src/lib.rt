@@ -5,16 +5,18 @@
 // Asking walks the overlay once, in fixed memory; committing walks it twice.
 #![tactic(auto)]
 
-ghost use Rattle.std.specs.Prelude.{◌≡◌, not};
-ghost use Rattle.combine.specs.Pool.{pool_input_refusal};
-ghost use Rattle.combine.specs.Ask.{figures_of, asked_or, ask_counts, same_figures, commit_counts};
+ghost use Rattle.std.specs.Prelude.{◌≡◌};
+ghost use Rattle.combine.specs.Ask.{ask_counts, commit_counts};
 
-use build::counts::{CountsAdded, Total};
-use combine::counts::{Asked, Figures};
+use build::counts::Added;
+use combine::counts::Figures;
+use combine::map::Map;
+use merger::CountMerger;
 use pool::{check, pool_counted, pool_figures};
 use refusal::Refusal;
 
-// Asks for the pool of two maps: the cells of their overlay, the entries after merging, and the total.
+// Asks for the pool of two maps: the cells of their overlay, the entries after merging, and the total. Maps
+// and settings are parameters of their own, as C hands them; so they are in `commit`.
 pub fn ask(
     left_depth: u8,
     left_zuniqs: &[u64],
@@ -25,10 +27,10 @@ pub fn ask(
     depth_threshold: u8,
     chi2_threshold: f64,
     protected: &[u64],
-) -> Asked
+) -> Result<Figures, Refusal>
     ensures { result ≡ ask_counts protected.now (record { depth = left_depth; zuniqs = left_zuniqs.now; values = left_counts.now }) (record { depth = right_depth; zuniqs = right_zuniqs.now; values = right_counts.now }) depth_threshold chi2_threshold }
 {
-    asked(
+    let checked = check(
         left_depth,
         left_zuniqs,
         left_counts,
@@ -40,7 +42,23 @@ pub fn ask(
         protected,
         0,
         0,
-    )
+    )?;
+    let left = Map {
+        depth: left_depth,
+        zuniqs: left_zuniqs,
+        values: left_counts,
+    };
+    let right = Map {
+        depth: right_depth,
+        zuniqs: right_zuniqs,
+        values: right_counts,
+    };
+    let merger = CountMerger {
+        depth_threshold,
+        chi2_threshold,
+        protected: checked.protected,
+    };
+    Ok(pool_figures(&left, &right, &merger, checked.total))
 }
 
 // Pools two maps into two output buffers, if the figures are those that an ask would answer.
@@ -57,10 +75,10 @@ pub fn commit(
     figures: Figures,
     zuniqs: &mut [u64],
     counts: &mut [u32],
-) -> CountsAdded
+) -> Result<Added, Refusal>
     ensures { (result, zuniqs.new, counts.new) ≡ commit_counts protected.now (record { depth = left_depth; zuniqs = left_zuniqs.now; values = left_counts.now }) (record { depth = right_depth; zuniqs = right_zuniqs.now; values = right_counts.now }) depth_threshold chi2_threshold figures zuniqs.old counts.old }
 {
-    match asked(
+    let checked = check(
         left_depth,
         left_zuniqs,
         left_counts,
@@ -72,82 +90,33 @@ pub fn commit(
         protected,
         zuniqs.len(),
         counts.len(),
-    ) {
-        Asked::Refused(refusal) => CountsAdded::Refused(refusal),
-        Asked::Answer(found) => {
-            if differ(figures, found) {
-                return CountsAdded::Refused(Refusal::FiguresDiffer);
-            }
-            pool_counted(
-                left_zuniqs,
-                left_counts,
-                right_zuniqs,
-                right_counts,
-                depth_threshold,
-                chi2_threshold,
-                protected,
-                found.cells,
-                found.total,
-                zuniqs,
-                counts,
-            )
-        }
-    }
-}
-
-// What is refused of the input, where the output has so many places for zuniqs and for counts; or the
-// figures.
-fn asked(
-    left_depth: u8,
-    left_zuniqs: &[u64],
-    left_counts: &[u32],
-    right_depth: u8,
-    right_zuniqs: &[u64],
-    right_counts: &[u32],
-    depth_threshold: u8,
-    chi2_threshold: f64,
-    protected: &[u64],
-    places: usize,
-    values: usize,
-) -> Asked
-    ensures { result ≡ asked_or (pool_input_refusal protected.now (record { depth = left_depth; zuniqs = left_zuniqs.now; values = left_counts.now }) (record { depth = right_depth; zuniqs = right_zuniqs.now; values = right_counts.now }) depth_threshold chi2_threshold places values) (figures_of protected.now (record { depth = left_depth; zuniqs = left_zuniqs.now; values = left_counts.now }) (record { depth = right_depth; zuniqs = right_zuniqs.now; values = right_counts.now }) depth_threshold chi2_threshold) }
-{
-    match check(
-        left_depth,
-        left_zuniqs,
-        left_counts,
-        right_depth,
-        right_zuniqs,
-        right_counts,
+    )?;
+    let left = Map {
+        depth: left_depth,
+        zuniqs: left_zuniqs,
+        values: left_counts,
+    };
+    let right = Map {
+        depth: right_depth,
+        zuniqs: right_zuniqs,
+        values: right_counts,
+    };
+    let merger = CountMerger {
         depth_threshold,
         chi2_threshold,
-        protected,
-        places,
-        values,
-    ) {
-        Total::Refused(refusal) => Asked::Refused(refusal),
-        Total::Sum(total) => Asked::Answer(pool_figures(
-            left_zuniqs,
-            left_counts,
-            right_zuniqs,
-            right_counts,
-            depth_threshold,
-            chi2_threshold,
-            protected,
-            total,
-        )),
+        protected: checked.protected,
+    };
+    let found = pool_figures(&left, &right, &merger, checked.total);
+    if figures != found {
+        return Err(Refusal::FiguresDiffer);
     }
-}
-
-// Whether figures are not those found.
-fn differ(figures: Figures, found: Figures) -> bool
-    ensures { result ≡ not (same_figures figures found) }
-{
-    if figures.cells != found.cells {
-        return true;
-    }
-    if figures.entries != found.entries {
-        return true;
-    }
-    figures.total != found.total
+    pool_counted(
+        &left,
+        &right,
+        &merger,
+        found.cells,
+        found.total,
+        zuniqs,
+        counts,
+    )
 }

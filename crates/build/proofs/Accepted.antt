@@ -10,6 +10,8 @@ use lib.Ieee.{Float}
 use lib.ListN.{length, get_or, take, drop, replicate, length-drop, drop_of_length-le}
 use lib.Seq.{get_or-take, length-take-le, take-suc}
 use borrow.Rule.Slice.PartMut.{mid_of, put_mid, mid_len}
+use Rattle.std.specs.Prelude.{Result, Ok}
+use Rattle.build.specs.declared.counts.Added.{Added as Answered}
 use Rattle.refusal.specs.declared.Refusal.{Refusal}
 use Rattle.protection.specs.Protected.{protected_refusal, RisingList}
 use Rattle.protection.proofs.Lists.{accepted_iff_rising_list}
@@ -17,20 +19,19 @@ use Rattle.merger.specs.Floats.{invalid_density}
 use Rattle.merger.specs.Merge.{accept_counts}
 use Rattle.merger.proofs.Accept.{accepted_count_is_sum}
 use Rattle.mom.specs.Map.{first_fault, ValidMap}
-use Rattle.build.specs.declared.counts.CountsAdded.{CountsAdded}
 use Rattle.refusal.specs.Checks.{or_else}
 use Rattle.build.specs.Map.{Entry}
 use Rattle.build.specs.Buffers.{batch, read_onto, held, filled, zuniq_of, value_of, zuniq_buffer, value_buffer}
 use Rattle.build.specs.Calls.{Buffers, Batch, Answer, Calls, cells, answered, add_call}
 use Rattle.build.specs.Standing.{Stands, Rising, Added}
-use Rattle.build.specs.Add.{settings_refusal, lengths_refusal, map_refusal, held_refusal, map_end, cells_refusal, sum_of, total_refusal, space_refusal}
+use Rattle.build.specs.Add.{settings_refusal, lengths_refusal, map_refusal, held_refusal, map_end, cells_refusal, hashes_refusal, sum_of, total_refusal, space_refusal}
 use Rattle.build.specs.Counts.{total_of, never, counts_refusal, Report, count_calls, counts_added, add_counts}
 use Rattle.build.specs.Densities.{density_refusal, densities_refusal}
 use Rattle.build.proofs.Adding.{run-total}
 use Rattle.build.proofs.Places.{fewer, held-suc, held-length, held-zuniqs, held-values}
 use Rattle.build.proofs.Filling.{sum_append}
 use Rattle.refusal.proofs.Checks.{or_else_none}
-use Rattle.build.proofs.Checking.{grouped, settings-pass, lengths_pass, map_passes, space_passes, total_fits, cells_pass}
+use Rattle.build.proofs.Checking.{grouped, settings-pass, lengths_pass, map_passes, space_passes, total_fits, cells_pass, cells_by_hashes}
 
 pub record Accepted {A : Type 0} (bad : A → Bool) (K D m places values : ℕ) (zs hs : List ℕ) (xs : List A) : Type 0 where
   pub shallow : D ≤ K
@@ -93,12 +94,32 @@ pub counts_after_held : (K : ℕ) (P : List ℕ) (D M : ℕ) (T : Float) (m plac
 unfolding counts_refusal held_refusal
 counts_after_held K P D M T m places values zs vs hs ns = grouped (settings_refusal K D M T) (protected_refusal K P) (lengths_refusal m places values (length hs) (length ns)) (map_refusal (first_fault K D zs)) _
 
+-- Once those rows have passed, adding counts is refused as the check of the batch tells.
+pub counts_by_batch : (K : ℕ) (P : List ℕ) (D M : ℕ) (T : Float) (m end : ℕ) (zs vs hs ns : List ℕ) → held_refusal K P D M T m (length zs) (length vs) (take m zs) (length hs) (length ns) ≡ none
+    → end ≡ map_end K D (take m zs)
+    → counts_refusal K P D M T m (length zs) (length vs) (take m zs) (take m vs) hs ns
+    ≡ or_else (hashes_refusal D end 0 hs) (or_else (total_refusal (sum_of (take m vs)) ns) (space_refusal (length zs) (length (take m vs)) (length hs)))
+counts_by_batch K P D M T m end zs vs hs ns e f =
+    let p = held_passes K P D M T m (length zs) (length vs) (take m zs) (length hs) (length ns) e in
+    let l = length-take-le m vs (omega (arith, p.within, p.paired)) in
+    rw (counts_after_held K P D M T m (length zs) (length vs) (take m zs) (take m vs) hs ns, e, cells_by_hashes D (map_end K D (take m zs)) 0 hs ns p.batched, ← f, l) refl
+
 pub densities_after_held : (P : List ℕ) (D M : ℕ) (T : Float) (m places values : ℕ) (zs : List ℕ) (vs : List Float) (hs : List ℕ) (xs : List Float)
     → densities_refusal P D M T m places values zs vs hs xs
     ≡ or_else (held_refusal 29 P D M T m places values zs (length hs) (length xs))
     (or_else (density_refusal 0 vs) (or_else (cells_refusal invalid_density D (map_end 29 D zs) 0 hs xs) (space_refusal places m (length hs))))
 unfolding densities_refusal held_refusal
 densities_after_held P D M T m places values zs vs hs xs = grouped (settings_refusal 29 D M T) (protected_refusal 29 P) (lengths_refusal m places values (length hs) (length xs)) (map_refusal (first_fault 29 D zs)) _
+
+-- Once those rows have passed, adding densities is refused as the check of the batch tells.
+pub densities_by_batch : (P : List ℕ) (D M : ℕ) (T : Float) (m end : ℕ) (zs : List ℕ) (vs : List Float) (hs : List ℕ) (xs : List Float)
+    → held_refusal 29 P D M T m (length zs) (length vs) (take m zs) (length hs) (length xs) ≡ none → end ≡ map_end 29 D (take m zs)
+    → densities_refusal P D M T m (length zs) (length vs) (take m zs) (take m vs) hs xs
+    ≡ or_else (density_refusal 0 (take m vs)) (or_else (cells_refusal invalid_density D end 0 hs xs) (space_refusal (length zs) (length (take m vs)) (length hs)))
+densities_by_batch P D M T m end zs vs hs xs e f =
+    let p = held_passes 29 P D M T m (length zs) (length vs) (take m zs) (length hs) (length xs) e in
+    let l = length-take-le m vs (omega (arith, p.within, p.paired)) in
+    rw (densities_after_held P D M T m (length zs) (length vs) (take m zs) (take m vs) hs xs, e, ← f, l) refl
 
 -- A valid map stands in its places.
 pub valid_stands : {A : Type 0} (K D m : ℕ) (zs : List ℕ) (vs : List A) → m ≤ length zs → m ≤ length vs → ValidMap K D (take m zs) → Stands K m zs vs
@@ -171,11 +192,15 @@ module _ {A R X : Type 0} (g : Calls A R X) (u : A) (b : Buffers A) where
   unfolding add_call
   call_left c e n zs vs zs' vs' w lz lv ez ev = rw e (map_left _ n zs vs zs' vs' w.stands w.is lz lv ez ev)
 
+-- What an accepted call answers, and both buffers.
+abbrev pub answer_of : ℕ → ℕ → List ℕ → List ℕ → Result Answered Refusal × List ℕ × List ℕ
+answer_of n sum zs vs = (Ok (record { entries = n; total = sum }), zs, vs)
+
 -- The same for counts, with their total.
 pub counts_left : (K : ℕ) (P : List ℕ) (D M : ℕ) (T : Float) (m : ℕ) (zs vs hs ns : List ℕ) → counts_refusal K P D M T m (length zs) (length vs) (take m zs) (take m vs) hs ns ≡ none
     → (n sum : ℕ) (zs₁ vs₁ zs₂ vs₂ : List ℕ) → Added (accept_counts K P M T) K m (batch D hs ns) zs vs n zs₁ vs₁ → length zs₁ ≡ length zs → length vs₁ ≡ length vs
     → zs₂ ≡ take n zs₁ ++ replicate (length zs₁ - n) 0 → vs₂ ≡ take n vs₁ ++ replicate (length vs₁ - n) 0 → sum_of (take m vs) + sum_of ns ≡ sum
-    → (CountsAdded.Added n sum, zs₂, vs₂) ≡ add_counts K P D M T m zs vs hs ns
+    → answer_of n sum zs₂ vs₂ ≡ add_counts K P D M T m zs vs hs ns
 unfolding add_counts
 counts_left K P D M T m zs vs hs ns e n sum zs₁ vs₁ zs₂ vs₂ w lz lv ez ev es =
     let a = (counts_accepted K P D M T m (length zs) (length vs) (take m zs) (take m vs) hs ns e).0 in
@@ -185,6 +210,6 @@ counts_left K P D M T m zs vs hs ns e n sum zs₁ vs₁ zs₂ vs₂ w lz lv ez e
     sym es ∙ ap₂ ◌+◌ (sym (held-total K m zs vs s)) (sym (batch-total D hs ns a.batched))
     ∙ sym (run-total (accept_counts K P M T) (λ x. x) (λ d h k0 k1 k2 k3 x q. accepted_count_is_sum K P M T d h k0 k1 k2 k3 x q) (held K m zs vs) (batch D hs ns))
     ∙ sym (ap total_of w.is) in
-    ap₂ (λ (k t : ℕ). (CountsAdded.Added k t, zs₂, vs₂)) k t
+    ap₂ (λ (k t : ℕ). answer_of k t zs₂ vs₂) k t
     ∙ ap (λ (r : Buffers ℕ × Answer Refusal Report). (counts_added r.1, r.0.zuniqs, r.0.values))
     (call_left (count_calls K P D M T) 0 (record { number = m; zuniqs = zs; values = vs }) (record { hashes = hs; values = ns }) e n zs₁ vs₁ zs₂ vs₂ w lz lv ez ev)

@@ -13,8 +13,7 @@ use Rattle.zuniq.specs.Codec.{zuniq}
 use Rattle.merger.specs.Floats.{0·0}
 use Rattle.merger.specs.Merge.{accept_counts, accept_densities}
 use Rattle.merger.proofs.Accept.{accepted_count_is_sum}
-use Rattle.build.specs.declared.counts.CountsAdded.{CountsAdded}
-use Rattle.build.specs.declared.densities.DensitiesAdded.{DensitiesAdded}
+use Rattle.std.specs.Prelude.{Ok}
 use Rattle.build.specs.Map.{Entry, Merger, defined_map}
 use Rattle.build.specs.Stack.{collapse_up_to, collapse, run}
 use Rattle.build.specs.Buffers.{batch, laid, filled, zuniq_of, value_of, zuniq_buffer, value_buffer, held}
@@ -88,7 +87,7 @@ module _ {A : Type 0} (accept : Merger A) (K : ℕ) (u : A) (m : ℕ) (zs : List
 
 -- Counts: "the entries after an accepted call are the held ones followed by the batch's cells with their values", at any M and T.
 pub counts_at_depth_0 : (K : ℕ) (P : List ℕ) (M : ℕ) (T : Float) (m : ℕ) (zs vs hs ns : List ℕ) → counts_refusal K P 0 M T m (length zs) (length vs) (take m zs) (take m vs) hs ns ≡ none
-    → add_counts K P 0 M T m zs vs hs ns ≡ (CountsAdded.Added (m + length hs) (sum_of (take m vs) + sum_of ns), followed m zs (map (zuniq K 0) hs) 0, followed m vs ns 0)
+    → add_counts K P 0 M T m zs vs hs ns ≡ (Ok (record { entries = m + length hs; total = sum_of (take m vs) + sum_of ns }), followed m zs (map (zuniq K 0) hs) 0, followed m vs ns 0)
 unfolding add_counts add_call
 counts_at_depth_0 K P M T m zs vs hs ns e =
     let a = (counts_accepted K P 0 M T m (length zs) (length vs) (take m zs) (take m vs) hs ns e).0 in
@@ -102,7 +101,7 @@ counts_at_depth_0 K P M T m zs vs hs ns e =
 
 -- Densities likewise.
 pub densities_at_depth_0 : (P : List ℕ) (M : ℕ) (T : Float) (m : ℕ) (zs : List ℕ) (vs : List Float) (hs : List ℕ) (xs : List Float) → densities_refusal P 0 M T m (length zs) (length vs) (take m zs) (take m vs) hs xs ≡ none
-    → add_densities P 0 M T m zs vs hs xs ≡ (DensitiesAdded.Added (m + length hs), followed m zs (map (zuniq 29 0) hs) 0, followed m vs xs 0·0)
+    → add_densities P 0 M T m zs vs hs xs ≡ (Ok (m + length hs), followed m zs (map (zuniq 29 0) hs) 0, followed m vs xs 0·0)
 unfolding add_densities add_call
 densities_at_depth_0 P M T m zs vs hs xs e =
     let a = (densities_accepted P 0 M T m (length zs) (length vs) (take m zs) (take m vs) hs xs e).0 in

@@ -1,5 +1,5 @@
 -- The checks of an add call, turn by turn. Assumes nothing.
-use mathlib.Core.Path.{◌≡◌, refl, ap, ◌∙◌}
+use mathlib.Core.Path.{◌≡◌, refl, ap}
 use mathlib.Core.Bool.{Bool, true, false, ◌||◌, not, true≢false}
 use mathlib.Core.List.{List, [], ◌∷◌}
 use mathlib.Core.Logic.{⊎_elim}
@@ -16,15 +16,14 @@ use Rattle.zuniq.specs.Cells.{n_hash}
 use Rattle.refusal.specs.declared.Refusal.{Refusal}
 use Rattle.refusal.proofs.Checks.{or_else_none, refused_if-none}
 use Rattle.zuniq.proofs.Basics.{le_or_lt}
+use Rattle.std.specs.Prelude.{Option as Answer, None, Some}
 use Rattle.mom.specs.Map.{first_fault, ValidMap}
 use Rattle.mom.specs.declared.FirstFault.{FirstFault}
 use Rattle.mom.proofs.Faults.{no_fault_iff_valid}
 use Rattle.refusal.specs.Checks.{or_else, refused_if}
-use Rattle.build.specs.declared.HeldMap.{HeldMap}
-use Rattle.build.specs.declared.counts.Total.{Total}
-use Rattle.build.specs.Add.{settings_refusal, lengths_refusal, map_refusal, held_or, cell_refusal, cells_refusal, hashes_refusal, sum_of, capped_sum, sum_refusal, total_refusal, space_refusal}
+use Rattle.build.specs.Add.{settings_refusal, lengths_refusal, map_refusal, cell_refusal, cells_refusal, hashes_refusal, sum_of, capped_sum, sum_refusal, total_refusal, space_refusal}
 use Rattle.build.specs.Standing.{Rising}
-use Rattle.build.specs.Counts.{total_or, never}
+use Rattle.build.specs.Counts.{never}
 
 -- Refusals in order may be tried in groups.
 pub grouped : (a b c d e : Option Refusal) → or_else a (or_else b (or_else c (or_else d e))) ≡ or_else (or_else a (or_else b (or_else c d))) e
@@ -33,15 +32,6 @@ grouped none none none (some r) e = refl
 grouped none none (some r) d e = refl
 grouped none (some r) c d e = refl
 grouped (some r) b c d e = refl
-
--- What the check of the held map answers tells what it found.
-pub held_passed : (o : Option Refusal) (n e : ℕ) → held_or o n ≡ HeldMap.EndsAt e → (o ≡ none) × (n ≡ e)
-held_passed none n e q = (refl, cc)
-held_passed (some r) n e q = let z : ◌≡◌ {A = ℕ} 0 1 = cc in absurd (omega arith)
-
-pub held_refused : (o : Option Refusal) (n : ℕ) (r : Refusal) → held_or o n ≡ HeldMap.Refused r → o ≡ some r
-held_refused none n r q = let z : ◌≡◌ {A = ℕ} 0 1 = cc in absurd (omega arith)
-held_refused (some s) n r q = cc
 
 -- A cell that passes is one of its depth, and is not below what it must be above.
 pub cell_passes : (cells least h i : ℕ) → cell_refusal cells least h i ≡ none → (h < cells) × (least ≤ h)
@@ -84,9 +74,9 @@ pub map_passes : (K D : ℕ) (zs : List ℕ) → map_refusal (first_fault K D zs
 unfolding map_refusal
 map_passes K D zs e = (no_fault_iff_valid K D zs).0 (go (first_fault K D zs) e)
   where
-    go : (f : FirstFault) → map_refusal f ≡ none → f ≡ FirstFault.Nothing
-    go FirstFault.Nothing q = refl
-    go (FirstFault.At i fault) q = let z : ◌≡◌ {A = ℕ} 0 1 = cc in absurd (omega arith)
+    go : (f : Answer FirstFault) → map_refusal f ≡ none → f ≡ None
+    go None q = refl
+    go (Some first) q = let z : ◌≡◌ {A = ℕ} 0 1 = cc in absurd (omega arith)
 
 pub space_passes : (places m batch : ℕ) → space_refusal places m batch ≡ none → m + batch ≤ places
 unfolding space_refusal
@@ -146,14 +136,6 @@ cells_by_hashes D least i (h ∷ hs) [] e = absurd (omega arith)
 cells_by_hashes D least i (h ∷ hs) (n ∷ ns) e = ap (or_else (cell_refusal (n_hash D) least h i)) (cells_by_hashes D (h + 1) (i + 1) hs ns (omega arith))
 
 -- ---- totals
-pub total_passed : (o : Option Refusal) (n x : ℕ) → total_or o n ≡ Total.Sum x → (o ≡ none) × (n ≡ x)
-total_passed none n x e = (refl, cc)
-total_passed (some r) n x e = let z : ◌≡◌ {A = ℕ} 0 1 = cc in absurd (omega arith)
-
-pub total_refused : (o : Option Refusal) (n : ℕ) (r : Refusal) → total_or o n ≡ Total.Refused r → o ≡ some r
-total_refused none n r e = let z : ◌≡◌ {A = ℕ} 0 1 = cc in absurd (omega arith)
-total_refused (some s) n r e = cc
-
 -- A total that is not refused fits.
 sum_fits : (sum i : ℕ) (ns : List ℕ) → sum ≤ 4294967295 → sum_refusal sum i ns ≡ none → sum + sum_of ns ≤ 4294967295
 unfolding sum_refusal sum_of
@@ -178,16 +160,12 @@ unfolding total_refusal
 total_passes sum ns l = rw (le-ltb 4294967295 sum (omega arith)) (sum_not_refused sum 0 ns l)
 
 -- The capped sum tells as much as the sum.
-capped_total : (vs ns : List ℕ) → total_or (total_refusal (capped_sum vs) ns) (capped_sum vs + sum_of ns) ≡ total_or (total_refusal (sum_of vs) ns) (sum_of vs + sum_of ns)
+pub capped_refusal : (vs ns : List ℕ) → total_refusal (capped_sum vs) ns ≡ total_refusal (sum_of vs) ns
 unfolding total_refusal capped_sum
-capped_total vs ns = ⊎_elim small large (le_or_lt (sum_of vs) 4294967295)
+capped_refusal vs ns = ⊎_elim small large (le_or_lt (sum_of vs) 4294967295)
   where
-    small : sum_of vs ≤ 4294967295 → total_or (total_refusal (capped_sum vs) ns) (capped_sum vs + sum_of ns) ≡ total_or (total_refusal (sum_of vs) ns) (sum_of vs + sum_of ns)
+    small : sum_of vs ≤ 4294967295 → total_refusal (capped_sum vs) ns ≡ total_refusal (sum_of vs) ns
     small l = let e : min (sum_of vs) 4294967296 ≡ sum_of vs = omega arith in rw e refl
 
-    large : 4294967295 < sum_of vs → total_or (total_refusal (capped_sum vs) ns) (capped_sum vs + sum_of ns) ≡ total_or (total_refusal (sum_of vs) ns) (sum_of vs + sum_of ns)
+    large : 4294967295 < sum_of vs → total_refusal (capped_sum vs) ns ≡ total_refusal (sum_of vs) ns
     large l = rw (lt-ltb 4294967295 (min (sum_of vs) 4294967296) (omega arith), lt-ltb 4294967295 (sum_of vs) l) refl
-
-pub total_uncapped : (vs ns : List ℕ) (capped : ℕ) (r : Total) → capped ≡ capped_sum vs → r ≡ total_or (total_refusal capped ns) (capped + sum_of ns)
-    → r ≡ total_or (total_refusal (sum_of vs) ns) (sum_of vs + sum_of ns)
-total_uncapped vs ns capped r e q = (rw e at q) ∙ capped_total vs ns

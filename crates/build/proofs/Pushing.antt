@@ -14,6 +14,22 @@ use Rattle.build.proofs.Adding.{run-append, collapse-total, run-total}
 use Rattle.build.proofs.Buffers.{length-batch, batch-drop}
 use Rattle.build.proofs.Siblings.{AreSiblings}
 
+-- Four cells of a batch that are siblings, and those behind them.
+pub batch-four : {A : Type 0} (D : ℕ) (hs : List ℕ) (xs : List A) (u : A) (i : ℕ) → AreSiblings D hs i → i + 4 ≤ length xs
+    → batch D (drop i hs) (drop i xs)
+    ≡ siblings D (get_or hs i 0) (get_or xs i u) (get_or xs (i + 1) u) (get_or xs (i + 2) u) (get_or xs (i + 3) u) ++ batch D (drop (i + 4) hs) (drop (i + 4) xs)
+batch-four D hs xs u i f q =
+    let h = get_or hs i 0 in
+    let rest = batch D (drop (i + 4) hs) (drop (i + 4) xs) in
+    let p = f.within in
+    let i2 : i + 1 + 1 ≡ i + 2 = omega arith in
+    let i3 : i + 2 + 1 ≡ i + 3 = omega arith in
+    let i4 : i + 3 + 1 ≡ i + 4 = omega arith in
+    let b3 : batch D (drop (i + 3) hs) (drop (i + 3) xs) ≡ entry D (h + 3) (get_or xs (i + 3) u) ∷ rest = rw (i4, f.fourth) at (batch-drop D hs xs u (i + 3) (omega arith) (omega arith)) in
+    let b2 : batch D (drop (i + 2) hs) (drop (i + 2) xs) ≡ entry D (h + 2) (get_or xs (i + 2) u) ∷ entry D (h + 3) (get_or xs (i + 3) u) ∷ rest = rw (i3, f.third, b3) at (batch-drop D hs xs u (i + 2) (omega arith) (omega arith)) in
+    let b1 : batch D (drop (i + 1) hs) (drop (i + 1) xs) ≡ entry D (h + 1) (get_or xs (i + 1) u) ∷ entry D (h + 2) (get_or xs (i + 2) u) ∷ entry D (h + 3) (get_or xs (i + 3) u) ∷ rest = rw (i2, f.second, b2) at (batch-drop D hs xs u (i + 1) (omega arith) (omega arith)) in
+    rw b1 at (batch-drop D hs xs u i (omega arith) (omega arith))
+
 -- Before cell i of a batch: n entries stand, and with the cells from i on they become what all cells make of the first m.
 pub record Before {A : Type 0} (accept : Merger A) (K D m : ℕ) (hs : List ℕ) (xs : List A) (zs₀ : List ℕ) (vs₀ : List A) (i n : ℕ) (zs : List ℕ) (vs : List A) : Type 0 where
   pub within : i ≤ length hs
@@ -43,23 +59,21 @@ module _ {A : Type 0} {accept : Merger A} {K D m : ℕ} {hs : List ℕ} {xs : Li
         → Added accept K n (siblings D (get_or hs i 0) (get_or xs i u) (get_or xs (i + 1) u) (get_or xs (i + 2) u) (get_or xs (i + 3) u)) zs vs r zs' vs'
         → Before accept K D m hs xs zs₀ vs₀ (i + 4) r zs' vs'
     Before-next_four u f q w =
-        let h = get_or hs i 0 in
         let rest = batch D (drop (i + 4) hs) (drop (i + 4) xs) in
-        let four = siblings D h (get_or xs i u) (get_or xs (i + 1) u) (get_or xs (i + 2) u) (get_or xs (i + 3) u) in
+        let four = siblings D (get_or hs i 0) (get_or xs i u) (get_or xs (i + 1) u) (get_or xs (i + 2) u) (get_or xs (i + 3) u) in
         let p = f.within in
-        let i2 : i + 1 + 1 ≡ i + 2 = omega arith in
-        let i3 : i + 2 + 1 ≡ i + 3 = omega arith in
-        let i4 : i + 3 + 1 ≡ i + 4 = omega arith in
-        let b3 : batch D (drop (i + 3) hs) (drop (i + 3) xs) ≡ entry D (h + 3) (get_or xs (i + 3) u) ∷ rest = rw (i4, f.fourth) at (batch-drop D hs xs u (i + 3) (omega arith) (omega arith)) in
-        let b2 : batch D (drop (i + 2) hs) (drop (i + 2) xs) ≡ entry D (h + 2) (get_or xs (i + 2) u) ∷ entry D (h + 3) (get_or xs (i + 3) u) ∷ rest = rw (i3, f.third, b3) at (batch-drop D hs xs u (i + 2) (omega arith) (omega arith)) in
-        let b1 : batch D (drop (i + 1) hs) (drop (i + 1) xs) ≡ entry D (h + 1) (get_or xs (i + 1) u) ∷ entry D (h + 2) (get_or xs (i + 2) u) ∷ entry D (h + 3) (get_or xs (i + 3) u) ∷ rest = rw (i2, f.second, b2) at (batch-drop D hs xs u (i + 1) (omega arith) (omega arith)) in
-        let b0 : batch D (drop i hs) (drop i xs) ≡ four ++ rest = rw b1 at (batch-drop D hs xs u i (omega arith) (omega arith)) in
         record {
           within = omega arith;
           stands = w.stands;
           least = omega (arith, w.least, b.least);
-          goes = ap (λ s. run accept s rest) w.is ∙ sym (run-append accept (held K n zs vs) four rest) ∙ sym (ap (run accept (held K n zs vs)) b0) ∙ b.goes;
+          goes = ap (λ s. run accept s rest) w.is ∙ sym (run-append accept (held K n zs vs) four rest) ∙ sym (ap (run accept (held K n zs vs)) (batch-four D hs xs u i f q)) ∙ b.goes;
         }
+
+    -- The entries and the cells that are left have the total that the first entries have with all cells.
+    pub Before-total : (figure : A → ℕ) → Sums accept figure
+        → total figure (held K n zs vs) + total figure (batch D (drop i hs) (drop i xs)) ≡ total figure (held K m zs₀ vs₀) + total figure (batch D hs xs)
+    Before-total figure sums =
+        sym (run-total accept figure sums (held K n zs vs) (batch D (drop i hs) (drop i xs))) ∙ ap (total figure) b.goes ∙ run-total accept figure sums (held K m zs₀ vs₀) (batch D hs xs)
 
     pub after_last : length hs ≡ length xs → length hs ≤ i → Added accept K m (batch D hs xs) zs₀ vs₀ n zs vs
     unfolding batch run

@@ -1,6 +1,6 @@
 -- Section 4 of the scope: the add calls. A call's refusals are one definition, the first that applies in the order of the
 -- table "Refusals in checking order"; its answer and both buffers afterwards are another.
-use Rattle.std.specs.Prelude.{Bool, ◌||◌, not, List, [], ◌∷◌, ℕ, ◌+◌, min, eqb, leb, ltb, Float}
+use Rattle.std.specs.Prelude.{Bool, ◌||◌, not, List, [], ◌∷◌, ℕ, ◌+◌, min, eqb, leb, ltb, Float, Option as Answer, None, Some}
 use Rattle.std.proofs.Math.Option.{Option, none, some}
 use Rattle.std.specs.Float.Ieee.{is_nan}
 use Rattle.zuniq.specs.Cells.{n_hash, end}
@@ -11,7 +11,6 @@ use Rattle.mom.specs.Map.{first_fault}
 use Rattle.mom.specs.declared.FirstFault.{FirstFault}
 use Rattle.refusal.specs.declared.Refusal.{Refusal}
 use Rattle.refusal.specs.Checks.{or_else, refused_if}
-use Rattle.build.specs.declared.HeldMap.{HeldMap}
 
 -- "1. The depth is over 29"; "2. M is over 29"; "3. T is NaN". Of row 1 note 1 of 02: "Number 1 then no longer covers a depth of 0", and
 -- note 2: "For narrow maps number 1 means a depth over 13": over K, the largest of the zuniq type. Note 2 leaves row 2 alone.
@@ -66,9 +65,9 @@ unfoldable pub capped_sum : List ℕ → ℕ
 capped_sum ns = min (sum_of ns) 4294967296
 
 -- "5. A held or given map is invalid; place: the entry."
-unfoldable pub map_refusal : FirstFault → Option Refusal
-map_refusal FirstFault.Nothing = none
-map_refusal (FirstFault.At place fault) = some (Refusal.InvalidMap place)
+unfoldable pub map_refusal : Answer FirstFault → Option Refusal
+map_refusal None = none
+map_refusal (Some first) = some (Refusal.InvalidMap first.place)
 
 -- rows 1 to 3, 15 (note 7 of 02: "tried after 3"), 4 and 5, which both add calls have: P is the list of protected parents, m the held
 -- number, `places` and `values` are the lengths of the buffers, zs the held zuniqs, `hashes` and `batch` the lengths of the batch's two lists
@@ -78,11 +77,6 @@ held_refusal K P D M T m places values zs hashes batch =
     (or_else (protected_refusal K P)
     (or_else (lengths_refusal m places values hashes batch)
     (map_refusal (first_fault K D zs))))
-
--- where the held map ends, or why it is refused
-abbrev pub held_or : Option Refusal → ℕ → HeldMap
-held_or none end = HeldMap.EndsAt end
-held_or (some r) end = HeldMap.Refused r
 
 -- where a cell ends, as a hash of depth D
 unfoldable pub cell_end : ℕ → Decoded → ℕ

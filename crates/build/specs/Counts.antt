@@ -1,12 +1,11 @@
 -- Section 4 of the scope: adding counts.
-use Rattle.std.specs.Prelude.{Bool, false, List, ℕ, Float, length}
-use Rattle.std.proofs.Math.Option.{Option, none, some}
+use Rattle.std.specs.Prelude.{Bool, false, List, ℕ, Float, length, Result, Ok, Err}
+use Rattle.std.proofs.Math.Option.{Option}
 use Rattle.refusal.specs.declared.Refusal.{Refusal}
 use Rattle.merger.specs.Merge.{accept_counts}
 use Rattle.protection.specs.Protected.{protected_refusal}
 use Rattle.mom.specs.Map.{first_fault}
-use Rattle.build.specs.declared.counts.Total.{Total}
-use Rattle.build.specs.declared.counts.CountsAdded.{CountsAdded}
+use Rattle.build.specs.declared.counts.Added.{Added}
 use Rattle.refusal.specs.Checks.{or_else}
 use Rattle.build.specs.Map.{Entry}
 use Rattle.build.specs.Promises.{total}
@@ -16,11 +15,6 @@ use Rattle.build.specs.Add.{settings_refusal, lengths_refusal, map_refusal, map_
 -- the sum of the counts of a map
 abbrev pub total_of : List (Entry ℕ) → ℕ
 total_of s = total (λ n. n) s
-
--- the total, or why it is refused
-abbrev pub total_or : Option Refusal → ℕ → Total
-total_or none n = Total.Sum n
-total_or (some r) n = Total.Refused r
 
 -- a count is never bad
 abbrev pub never : ℕ → Bool
@@ -56,12 +50,12 @@ count_calls K P D M T = record {
 }
 
 -- what the call answers
-abbrev pub counts_added : Answer Refusal Report → CountsAdded
-counts_added (Answer.refused r) = CountsAdded.Refused r
-counts_added (Answer.accepted x) = CountsAdded.Added x.entries x.sum
+abbrev pub counts_added : Answer Refusal Report → Result Added Refusal
+counts_added (Answer.refused r) = Err r
+counts_added (Answer.accepted x) = Ok (record { entries = x.entries; total = x.sum })
 
 -- The answer and both buffers afterwards.
-unfoldable pub add_counts : ℕ → List ℕ → ℕ → ℕ → Float → ℕ → List ℕ → List ℕ → List ℕ → List ℕ → CountsAdded × List ℕ × List ℕ
+unfoldable pub add_counts : ℕ → List ℕ → ℕ → ℕ → Float → ℕ → List ℕ → List ℕ → List ℕ → List ℕ → Result Added Refusal × List ℕ × List ℕ
 add_counts K P D M T m zs vs hs ns =
     let t = add_call (count_calls K P D M T) (record { number = m; zuniqs = zs; values = vs }) (record { hashes = hs; values = ns }) in
     (counts_added t.1, t.0.zuniqs, t.0.values)

@@ -1,12 +1,11 @@
 -- Section 4 of the scope: adding densities.
-use Rattle.std.specs.Prelude.{List, [], ◌∷◌, ℕ, ◌+◌, Float, length}
+use Rattle.std.specs.Prelude.{List, [], ◌∷◌, ℕ, ◌+◌, Float, length, Result, Ok, Err}
 use Rattle.std.proofs.Math.Option.{Option, none}
 use Rattle.refusal.specs.declared.Refusal.{Refusal}
 use Rattle.merger.specs.Floats.{0·0, invalid_density}
 use Rattle.merger.specs.Merge.{accept_densities}
 use Rattle.protection.specs.Protected.{protected_refusal}
 use Rattle.mom.specs.Map.{first_fault}
-use Rattle.build.specs.declared.densities.DensitiesAdded.{DensitiesAdded}
 use Rattle.refusal.specs.Checks.{or_else, refused_if}
 use Rattle.build.specs.Calls.{Answer, Calls, add_call}
 use Rattle.build.specs.Add.{settings_refusal, lengths_refusal, map_refusal, map_end, cells_refusal, space_refusal}
@@ -41,12 +40,12 @@ density_calls P D M T = record {
 }
 
 -- what the call answers
-abbrev pub densities_added : Answer Refusal ℕ → DensitiesAdded
-densities_added (Answer.refused r) = DensitiesAdded.Refused r
-densities_added (Answer.accepted n) = DensitiesAdded.Added n
+abbrev pub densities_added : Answer Refusal ℕ → Result ℕ Refusal
+densities_added (Answer.refused r) = Err r
+densities_added (Answer.accepted n) = Ok n
 
 -- The answer and both buffers afterwards.
-unfoldable pub add_densities : List ℕ → ℕ → ℕ → Float → ℕ → List ℕ → List Float → List ℕ → List Float → DensitiesAdded × List ℕ × List Float
+unfoldable pub add_densities : List ℕ → ℕ → ℕ → Float → ℕ → List ℕ → List Float → List ℕ → List Float → Result ℕ Refusal × List ℕ × List Float
 add_densities P D M T m zs vs hs xs =
     let t = add_call (density_calls P D M T) (record { number = m; zuniqs = zs; values = vs }) (record { hashes = hs; values = xs }) in
     (densities_added t.1, t.0.zuniqs, t.0.values)

@@ -1,59 +1,22 @@
-// The free part of the buffers, behind the entries: it is lent from its middle on, to put the next
-// entry at its front or to be cleared. Where there is no place, nothing is put. There is one copy of
-// each function for each type of place.
+// The free part of a buffer, behind the entries: it is lent from its middle on, to take the next entry at
+// its front or to be cleared.
 ghost use Rattle.std.specs.Prelude.{◌≡◌, length, set, replicate};
-ghost use Rattle.merger.specs.Floats.{0·0};
 
-pub fn put_zuniq(free: &mut [u64], zuniq: u64)
-    ensures { free.new ≡ set free.old 0 «zuniq» }
+// Puts a value at the front. Where there is no place, nothing is put.
+pub fn put<T: Copy>(free: &mut [T], value: T)
+    ensures { free.new ≡ set free.old 0 value }
 {
-    if free.len() > 0 {
-        free[0] = zuniq;
+    if !free.is_empty() {
+        free[0] = value;
     }
 }
 
-pub fn put_count(free: &mut [u32], count: u32)
-    ensures { free.new ≡ set free.old 0 count }
+// Fills it with the value of a place that is free. It is no `fill`, which clones, and of a type parameter
+// it isn't known that a clone can't fail.
+pub fn clear<T: Copy>(free: &mut [T], zero: T)
+    ensures { free.new ≡ replicate (length free.old) zero }
 {
-    if free.len() > 0 {
-        free[0] = count;
-    }
-}
-
-pub fn put_density(free: &mut [f64], density: f64)
-    ensures { free.new ≡ set free.old 0 density }
-{
-    if free.len() > 0 {
-        free[0] = density;
-    }
-}
-
-pub fn clear_zuniqs(free: &mut [u64])
-    ensures { free.new ≡ replicate (length free.old) 0 }
-{
-    let mut i = 0;
-    while i < free.len() {
-        free[i] = 0;
-        i += 1;
-    }
-}
-
-pub fn clear_counts(free: &mut [u32])
-    ensures { free.new ≡ replicate (length free.old) 0 }
-{
-    let mut i = 0;
-    while i < free.len() {
-        free[i] = 0;
-        i += 1;
-    }
-}
-
-pub fn clear_densities(free: &mut [f64])
-    ensures { free.new ≡ replicate (length free.old) 0·0 }
-{
-    let mut i = 0;
-    while i < free.len() {
-        free[i] = 0.0;
-        i += 1;
+    for place in free.iter_mut() {
+        *place = zero;
     }
 }

@@ -1,34 +1,34 @@
 -- What every call answers, in the scope's numbers, places and values: the rows of the table of refusals in their order, and then the
 -- answer. Each law is about the definition that the call's contract cites. Assumes nothing.
-use mathlib.Core.Path.{◌≡◌, refl, ap, ◌∙◌}
+use mathlib.Core.Path.{◌≡◌, refl, sym, ap, ◌∙◌}
 use mathlib.Core.Bool.{Bool, true, false, ◌||◌, not, cond}
 use mathlib.Core.List.{List, reverse}
 use mathlib.Core.Option.{Option, none, some}
-use Prim.Native.Nat.{ℕ, ◌+◌, ◌*◌, ◌/◌, ◌%◌, min}
+use Prim.Native.Nat.{ℕ, ◌+◌, ◌*◌, ◌/◌, ◌%◌, ◌^◌, ◌<◌, min}
+use native.Mathlib.Omega.{arith}
 use lib.Dec.{eqb, leb, ltb}
 use lib.Ieee.{Float, is_nan}
 use lib.ListN.{length, take}
-use Rattle.refusal.specs.Told.{Told, refused_by}
+use Rattle.std.specs.Prelude.{Option as Answer, None, Some, Result, Ok, Err}
+use Rattle.refusal.specs.Told.{Told, refused_by, told}
 use Rattle.refusal.specs.declared.Refusal.{Refusal}
 use Rattle.zuniq.specs.Cells.{n_hash, overlap}
-use Rattle.zuniq.specs.Codec.{zuniq, cell_number, encode, decode, overlap_of, overlap_test}
-use Rattle.zuniq.specs.Codec32.{encoded32, decoded32}
-use Rattle.zuniq.specs.Told.{told_cells, told_zuniq, told_zuniq32, told_cell, told_cell32, told_overlap}
-use Rattle.zuniq.specs.declared.Encoded.{Encoded}
+use Rattle.zuniq.specs.Codec.{zuniq, IsZuniqOf, cell_number, encode, decode, overlap_of, overlap_test}
+use Rattle.zuniq.specs.Told.{told_cell}
+use Rattle.zuniq.specs.declared.Cell.{Cell}
 use Rattle.zuniq.specs.declared.Decoded.{Decoded}
+use Rattle.zuniq.proofs.Codec.{decodes}
+use Rattle.zuniq.proofs.Ranges.{sentinel_lt}
 use Rattle.merger.specs.Floats.{invalid_density}
 use Rattle.protection.specs.Protected.{protected_refusal}
-use Rattle.merger.specs.Merge.{quad_refusal, accept_counts, accept_densities, merge_counts, count_merger_or, count_merger, merge_densities, first_invalid, density_merger_or, density_merger}
-use Rattle.merger.specs.declared.CountMerge.{CountMerge}
-use Rattle.merger.specs.declared.DensityMerge.{DensityMerge}
-use Rattle.merger.specs.Told.{Four, told_count_merge, told_density_merge, told_count_merger, told_density_merger}
-use Rattle.mom.specs.Map.{first_fault, valid_or, map_check}
+use Rattle.merger.specs.Merge.{quad_refusal, accept_counts, accept_densities, merge_counts, count_merger, merge_densities, first_invalid, invalid_child, density_merger}
+use Rattle.merger.specs.declared.Merge.{Merge}
+use Rattle.merger.specs.Told.{Four, told_merge, told_merger}
+use Rattle.mom.specs.Map.{first_fault, map_check}
 use Rattle.mom.specs.Lookup.{place_from, query_at, containing, first_from, overlapped, run_or, overlapping}
-use Rattle.mom.specs.Told.{told_check, told_containing, told_run}
+use Rattle.mom.specs.Told.{told_check, told_run}
 use Rattle.mom.specs.declared.FirstFault.{FirstFault}
-use Rattle.mom.specs.declared.lookup.Containing.{Containing}
-use Rattle.mom.specs.declared.lookup.Run.{Run}
-use Rattle.refusal.specs.Checks.{or_else, refused_if}
+use Rattle.refusal.specs.Checks.{or_else, refused_if, ok_unless}
 use Rattle.build.specs.Map.{Entry}
 use Rattle.build.specs.Stack.{run}
 use Rattle.build.specs.Buffers.{batch, held}
@@ -36,28 +36,23 @@ use Rattle.build.specs.Calls.{Buffers, Calls, answered, add_call}
 use Rattle.build.specs.Add.{settings_refusal, lengths_refusal, map_refusal, map_end, cells_refusal, sum_of, total_refusal, space_refusal}
 use Rattle.build.specs.Counts.{total_of, never, counts_refusal, Report, count_calls, counts_added, add_counts}
 use Rattle.build.specs.Densities.{density_refusal, densities_refusal, density_calls, densities_added, add_densities}
-use Rattle.build.specs.Told.{told_counts, told_densities}
+use Rattle.build.specs.Told.{told_counts}
 use Rattle.combine.specs.Overlay.{overlay}
 use Rattle.combine.specs.Rules.{split_count, defined_pool, defined_product}
 use Rattle.combine.specs.Densities.{some_not_finite}
 use Rattle.combine.specs.Pool as Combining
 use Rattle.combine.specs.Pool.{Given, entries, result_depth, pool_kept, product_kept, pool_counts, product_densities}
-use Rattle.combine.specs.Ask.{ask_refusal, figures_of, asked_or, ask_counts, same_figures, figures_refusal, commit_refusal, commit_counts}
+use Rattle.combine.specs.Ask.{ask_refusal, figures_of, ask_counts, same_figures, figures_refusal, commit_refusal, commit_counts}
 use Rattle.combine.specs.Told.{told_asked}
 use Rattle.combine.specs.declared.counts.Figures.{Figures}
 use Rattle.moving.specs.Moving.{deep_refusal, entries_refusal, moving_refusal, moved_or, moved}
 use Rattle.moving.specs.Told.{told_moved}
 use Rattle.coverage.specs.Ranges.{Range, ranges_of, ranges_refusal}
 use Rattle.coverage.specs.Coverage.{coverage_of, coverage_input_refusal, coverage_refusal, covered_or, coverage_call}
-use Rattle.coverage.specs.Told.{told_covered}
 use Rattle.clip.specs.Call.{clipped_of, clip_input_refusal, clip_refusal, clipped_or, clip_call}
-use Rattle.clip.specs.Told.{told_clipped}
 use Rattle.rows.specs.Rows.{differ, places, rows_to_read, rows_to_write}
-use Rattle.rows.specs.Told.{told_rows}
-use Rattle.rows.specs.declared.Rows.{Rows}
 use Rattle.columns.specs.Columns.{named, rows_to_lay, laid, rows_to_columns, columns_to_rows}
 use Rattle.density.specs.Densities.{density_at, density_of_count}
-use Rattle.density.specs.Told.{told_count_density}
 use Rattle.claims.specs.Answers.{row, row_at, rows_of, faulty_entry, fault_told}
 
 -- ---- rows in order
@@ -75,42 +70,66 @@ module _ {X : Type 0} where
   one_row true r next = refl
   one_row false r next = refl
 
-  map_row : (f : FirstFault) (next : Told X) → rows_of (map_refusal f) next ≡ row_at 5 (faulty_entry f) next
+  map_row : (f : Answer FirstFault) (next : Told X) → rows_of (map_refusal f) next ≡ row_at 5 (faulty_entry f) next
   unfolding map_refusal
-  map_row FirstFault.Nothing next = refl
-  map_row (FirstFault.At place fault) next = refl
+  map_row None next = refl
+  map_row (Some f) next = refl
+
+  child_row : (child : Answer ℕ) (next : Told X) → rows_of (invalid_child child) next ≡ row_at 9 child next
+  child_row None next = refl
+  child_row (Some child) next = refl
 
 -- ---- section 1
 -- N(d): 1.
-pub n_hash-tells : (d : ℕ) → told_cells (cell_number 29 d) ≡ row 1 (ltb 29 d) (Told.answer (n_hash d))
+pub n_hash-tells : (d : ℕ) → told (cell_number 29 d) ≡ row 1 (ltb 29 d) (Told.answer (n_hash d))
 unfolding cell_number
-n_hash-tells d = of_choice told_cells (ltb 29 d) _ _
+n_hash-tells d = of_choice told (ltb 29 d) _ _
 
 -- Encoding: 1, 7.
-pub to_zuniq_tells : (K d h : ℕ) → told_zuniq (encode K d h) ≡ row 1 (ltb K d) (row 7 (leb (n_hash d) h) (Told.answer (zuniq K d h)))
+pub to_zuniq_tells : (K d h : ℕ) → told (encode K d h) ≡ row 1 (ltb K d) (row 7 (leb (n_hash d) h) (Told.answer (zuniq K d h)))
 unfolding encode
-to_zuniq_tells K d h = of_choice told_zuniq (ltb K d) _ _ ∙ ap (row 1 (ltb K d)) (of_choice told_zuniq (leb (n_hash d) h) _ _)
+to_zuniq_tells K d h = of_choice told (ltb K d) _ _ ∙ ap (row 1 (ltb K d)) (of_choice told (leb (n_hash d) h) _ _)
 
--- Both in u32: an answer tells what it told.
-pub narrow_zuniq_tells : (a : Encoded) → told_zuniq32 (encoded32 a) ≡ told_zuniq a
-narrow_zuniq_tells (Encoded.Zuniq z) = refl
-narrow_zuniq_tells (Encoded.Refused r) = refl
+-- Encoding in u32: 1 where the depth is over 13, 7.
+pub narrow_zuniq_tells : (d h : ℕ) → told (encode 13 d h) ≡ row 1 (ltb 13 d) (row 7 (leb (n_hash d) h) (Told.answer (zuniq 13 d h)))
+narrow_zuniq_tells d h = to_zuniq_tells 13 d h
 
-pub narrow_cell_tells : (a : Decoded) → told_cell32 (decoded32 a) ≡ told_cell a
-narrow_cell_tells (Decoded.Cell c) = refl
-narrow_cell_tells Decoded.Nothing = refl
+-- Decoding in u32: the hash that is told fits a u32.
+narrow_hash_fits : (z : ℕ) (c : Cell) → decode 13 z ≡ Decoded.Cell c → c.hash < 2 ^ 32
+unfolding n_hash
+narrow_hash_fits z c e =
+    let v = (decodes 13 z c).0 e in
+    let l = sentinel_lt 13 c.depth c.hash v.deep v.hash in
+    omega arith
+
+pub narrow_cell_tells : (z : ℕ) (c : ℕ × ℕ) → told_cell (decode 13 z) ≡ Some c → c.1 < 2 ^ 32
+narrow_cell_tells z c e = go (decode 13 z) refl e
+  where
+    go : (a : Decoded) → decode 13 z ≡ a → told_cell a ≡ Some c → c.1 < 2 ^ 32
+    go (Decoded.Cell x) d q = let k : (x.depth, x.hash) ≡ c = cc in rw (← k) (narrow_hash_fits z x d)
+    go Decoded.Nothing d q = let n : ◌≡◌ {A = ℕ} 0 1 = cc in absurd (omega arith)
+
+-- What decoding answers in u32: the cell whose zuniq it is, or there is none.
+pub decoded_cell : (z : ℕ) (c : Cell) → Decoded.Cell c ≡ decode 13 z → decode 13 z ≡ Decoded.Cell c
+decoded_cell z c e = sym e
+
+pub decoded_is : (z : ℕ) (c : Cell) → Decoded.Cell c ≡ decode 13 z → IsZuniqOf 13 z c.depth c.hash
+decoded_is z c e = (decodes 13 z c).0 (sym e)
+
+pub decoded_none : (z : ℕ) → Decoded.Nothing ≡ decode 13 z → decode 13 z ≡ Decoded.Nothing
+decoded_none z e = sym e
 
 -- The overlap test: 12, place 0 or 1.
-abbrev pub overlap_told : Option (ℕ × ℕ) → Option (ℕ × ℕ) → Told Bool
-overlap_told none r = Told.refused 12 0
-overlap_told (some l) none = Told.refused 12 1
-overlap_told (some l) (some r) = Told.answer (overlap l.0 l.1 r.0 r.1)
+abbrev pub overlap_told : Answer (ℕ × ℕ) → Answer (ℕ × ℕ) → Told Bool
+overlap_told None r = Told.refused 12 0
+overlap_told (Some l) None = Told.refused 12 1
+overlap_told (Some l) (Some r) = Told.answer (overlap l.0 l.1 r.0 r.1)
 
-pub are_overlapping_tells : (K l r : ℕ) → told_overlap (overlap_test K l r) ≡ overlap_told (told_cell (decode K l)) (told_cell (decode K r))
+pub are_overlapping_tells : (K l r : ℕ) → told (overlap_test K l r) ≡ overlap_told (told_cell (decode K l)) (told_cell (decode K r))
 unfolding overlap_test overlap_of
 are_overlapping_tells K l r = go (decode K l) (decode K r)
   where
-    go : (a b : Decoded) → told_overlap (overlap_of a b) ≡ overlap_told (told_cell a) (told_cell b)
+    go : (a b : Decoded) → told (overlap_of a b) ≡ overlap_told (told_cell a) (told_cell b)
     go Decoded.Nothing b = refl
     go (Decoded.Cell c) Decoded.Nothing = refl
     go (Decoded.Cell c) (Decoded.Cell e) = refl
@@ -130,81 +149,77 @@ module _ {X : Type 0} (P : List ℕ) (M : ℕ) (T : Float) (p h : ℕ) (next : T
       ∙ ap (row 3 (is_nan T)) (in_order (protected_refusal 29 P) _ next
       ∙ ap (rows_of (protected_refusal 29 P)) (one_row (leb (n_hash p) h) _ next))))
 
-count_merger_told : (o : Option Refusal) (m : CountMerge) → told_count_merger (count_merger_or o m) ≡ rows_of o (Told.answer (told_count_merge m))
-count_merger_told none m = refl
-count_merger_told (some r) m = refl
-
-density_merger_told : (o : Option Refusal) (m : DensityMerge) → told_density_merger (density_merger_or o m) ≡ rows_of o (Told.answer (told_density_merge m))
-density_merger_told none m = refl
-density_merger_told (some r) m = refl
+merger_told : {V : Type 0} (o : Option Refusal) (m : Merge V) → told_merger (ok_unless o m) ≡ rows_of o (Told.answer (told_merge m))
+merger_told none m = refl
+merger_told (some r) m = refl
 
 -- The count merger: these, and 10.
-pub count_merger-tells : (P : List ℕ) (M : ℕ) (T : Float) (p h n0 n1 n2 n3 : ℕ) → told_count_merger (count_merger P M T p h n0 n1 n2 n3)
+pub count_merger-tells : (P : List ℕ) (M : ℕ) (T : Float) (p h n0 n1 n2 n3 : ℕ) → told_merger (count_merger P M T p h n0 n1 n2 n3)
     ≡ row 1 (ltb 28 p) (row 2 (ltb 29 M) (row 3 (is_nan T) (rows_of (protected_refusal 29 P) (row 7 (leb (n_hash p) h)
-    (row 10 (ltb 4294967295 (n0 + n1 + n2 + n3)) (Told.answer (told_count_merge (merge_counts 29 P M T p h n0 n1 n2 n3))))))))
+    (row 10 (ltb 4294967295 (n0 + n1 + n2 + n3)) (Told.answer (told_merge (merge_counts 29 P M T p h n0 n1 n2 n3))))))))
 unfolding count_merger
 count_merger-tells P M T p h n0 n1 n2 n3 =
     let over = ltb 4294967295 (n0 + n1 + n2 + n3) in
     let row10 = refused_if over (Refusal.CountOverflow 0) in
-    let last : Told (Four ℕ) = Told.answer (told_count_merge (merge_counts 29 P M T p h n0 n1 n2 n3)) in
-    count_merger_told (or_else (quad_refusal P M T p h) row10) (merge_counts 29 P M T p h n0 n1 n2 n3)
+    let last : Told (Four ℕ) = Told.answer (told_merge (merge_counts 29 P M T p h n0 n1 n2 n3)) in
+    merger_told (or_else (quad_refusal P M T p h) row10) (merge_counts 29 P M T p h n0 n1 n2 n3)
     ∙ in_order (quad_refusal P M T p h) row10 last
     ∙ ap (rows_of (quad_refusal P M T p h)) (one_row over (Refusal.CountOverflow 0) last)
     ∙ quad_rows P M T p h _
 
 -- The density merger: these, and 9 with the child's place.
-pub density_merger-tells : (P : List ℕ) (M : ℕ) (T : Float) (p h : ℕ) (m0 m1 m2 m3 : Float) → told_density_merger (density_merger P M T p h m0 m1 m2 m3)
+pub density_merger-tells : (P : List ℕ) (M : ℕ) (T : Float) (p h : ℕ) (m0 m1 m2 m3 : Float) → told_merger (density_merger P M T p h m0 m1 m2 m3)
     ≡ row 1 (ltb 28 p) (row 2 (ltb 29 M) (row 3 (is_nan T) (rows_of (protected_refusal 29 P) (row 7 (leb (n_hash p) h)
-    (cond (ltb (first_invalid m0 m1 m2 m3) 4) (Told.refused 9 (first_invalid m0 m1 m2 m3)) (Told.answer (told_density_merge (merge_densities P M T p h m0 m1 m2 m3))))))))
+    (row_at 9 (first_invalid m0 m1 m2 m3) (Told.answer (told_merge (merge_densities P M T p h m0 m1 m2 m3))))))))
 unfolding density_merger
 density_merger-tells P M T p h m0 m1 m2 m3 =
     let child = first_invalid m0 m1 m2 m3 in
-    let row9 = refused_if (ltb child 4) (Refusal.InvalidDensity child) in
-    let last : Told (Four Float) = Told.answer (told_density_merge (merge_densities P M T p h m0 m1 m2 m3)) in
-    density_merger_told (or_else (quad_refusal P M T p h) row9) (merge_densities P M T p h m0 m1 m2 m3)
+    let row9 = invalid_child child in
+    let last : Told (Four Float) = Told.answer (told_merge (merge_densities P M T p h m0 m1 m2 m3)) in
+    merger_told (or_else (quad_refusal P M T p h) row9) (merge_densities P M T p h m0 m1 m2 m3)
     ∙ in_order (quad_refusal P M T p h) row9 last
-    ∙ ap (rows_of (quad_refusal P M T p h)) (one_row (ltb child 4) (Refusal.InvalidDensity child) last)
+    ∙ ap (rows_of (quad_refusal P M T p h)) (child_row child last)
     ∙ quad_rows P M T p h _
 
 -- ---- sections 3 and 6
 -- The map check: 1.
 pub check_tells : (K D : ℕ) (zs : List ℕ) → told_check (map_check K D zs) ≡ row 1 (ltb K D) (Told.answer (fault_told (first_fault K D zs)))
-unfolding map_check valid_or
+unfolding map_check
 check_tells K D zs = of_choice told_check (ltb K D) _ _ ∙ ap (row 1 (ltb K D)) (go (first_fault K D zs))
   where
-    go : (f : FirstFault) → told_check (valid_or f) ≡ Told.answer (fault_told f)
-    go FirstFault.Nothing = refl
-    go (FirstFault.At place fault) = refl
+    go : (f : Answer FirstFault) → told_check (Ok f) ≡ Told.answer (fault_told f)
+    go None = refl
+    go (Some f) = refl
 
 -- Containing: 1, 12.
-abbrev pub not_at : ℕ → Option (ℕ × ℕ) → Bool
-not_at D none = true
-not_at D (some c) = not (eqb c.0 D)
+abbrev pub not_at : ℕ → Answer (ℕ × ℕ) → Bool
+not_at D None = true
+not_at D (Some c) = not (eqb c.0 D)
 
-pub containing-tells : (K D : ℕ) (zs : List ℕ) (q : ℕ) → told_containing (containing K D zs q)
-    ≡ row 1 (ltb K D) (row 12 (not_at D (told_cell (decode K q))) (told_containing (place_from K q 0 zs)))
+pub containing-tells : (K D : ℕ) (zs : List ℕ) (q : ℕ) → told (containing K D zs q)
+    ≡ row 1 (ltb K D) (row 12 (not_at D (told_cell (decode K q))) (Told.answer (place_from K q 0 zs)))
 unfolding containing query_at
-containing-tells K D zs q = of_choice told_containing (ltb K D) _ _ ∙ ap (row 1 (ltb K D)) (go (decode K q))
+containing-tells K D zs q = of_choice told (ltb K D) _ _ ∙ ap (row 1 (ltb K D)) (go (decode K q))
   where
-    swap : (b : Bool) (x y : Containing) → told_containing (cond b x y) ≡ cond (not b) (told_containing y) (told_containing x)
+    swap : (b : Bool) (x y : Result (Answer ℕ) Refusal) → told (cond b x y) ≡ cond (not b) (told y) (told x)
     swap true x y = refl
     swap false x y = refl
 
-    go : (c : Decoded) → told_containing (query_at D c (place_from K q 0 zs)) ≡ row 12 (not_at D (told_cell c)) (told_containing (place_from K q 0 zs))
+    go : (c : Decoded) → told (query_at D c (place_from K q 0 zs)) ≡ row 12 (not_at D (told_cell c)) (Told.answer (place_from K q 0 zs))
     go Decoded.Nothing = refl
     go (Decoded.Cell c) = swap (eqb c.depth D) _ _
 
 -- Overlapping: 12.
-abbrev pub is_nothing : Option (ℕ × ℕ) → Bool
-is_nothing none = true
-is_nothing (some c) = false
+abbrev pub is_nothing : Answer (ℕ × ℕ) → Bool
+is_nothing None = true
+is_nothing (Some c) = false
 
 pub overlapping-tells : (K : ℕ) (zs : List ℕ) (q : ℕ) → told_run (overlapping K zs q)
     ≡ row 12 (is_nothing (told_cell (decode K q))) (Told.answer (first_from K q 0 zs, length (overlapped K zs q)))
 unfolding overlapping run_or
 overlapping-tells K zs q = go (decode K q)
   where
-    go : (c : Decoded) → told_run (run_or c (Run.Entries (first_from K q 0 zs) (length (overlapped K zs q))))
+    go : (c : Decoded) → told_run (run_or c (record { first = first_from K q 0 zs; len = length (overlapped K zs q) }))
         ≡ row 12 (is_nothing (told_cell c)) (Told.answer (first_from K q 0 zs, length (overlapped K zs q)))
     go Decoded.Nothing = refl
     go (Decoded.Cell c) = refl
@@ -217,7 +232,7 @@ counts_told g none b s = refl
 counts_told g (some r) b s = refl
 
 densities_told : (g : Calls Float Refusal ℕ) (o : Option Refusal) (b : Buffers Float) (s : List (Entry Float))
-    → told_densities (densities_added (answered g o b s).1) ≡ rows_of o (Told.answer (g.report s))
+    → told (densities_added (answered g o b s).1) ≡ rows_of o (Told.answer (g.report s))
 densities_told g none b s = refl
 densities_told g (some r) b s = refl
 
@@ -272,7 +287,7 @@ module _ (P : List ℕ) (D M : ℕ) (T : Float) (m : ℕ) (zs : List ℕ) (vs : 
   abbrev pub densities_made : List (Entry Float)
   densities_made = run (accept_densities P M T) (held 29 m zs vs) (batch D hs xs)
 
-  pub add_densities-tells : told_densities (add_densities P D M T m zs vs hs xs).0
+  pub add_densities-tells : told (add_densities P D M T m zs vs hs xs).0
       ≡ row 1 (ltb 29 D)
       (row 2 (ltb 29 M)
       (row 3 (is_nan T)
@@ -382,7 +397,7 @@ module _ (P : List ℕ) (l r : Given Float) (M : ℕ) (T k : Float) (zs : List �
   abbrev pub product_map : List (Entry Float)
   product_map = reverse (defined_product (accept_densities P M T) k (result_depth l r) (entries l) (entries r))
 
-  pub product_tells : told_densities (product_densities P l r M T k zs vs).0
+  pub product_tells : told (product_densities P l r M T k zs vs).0
       ≡ row 1 (ltb 29 l.depth || ltb 29 r.depth)
       (row 2 (ltb 29 M)
       (row 3 (is_nan T)
@@ -425,26 +440,26 @@ module _ (P : List ℕ) (l r : Given Float) (M : ℕ) (T k : Float) (zs : List �
 
 -- ---- section 7
 -- Reading rows: 4, 11.
-pub read_rows_tells : (k bytes : ℕ) (ls : List ℕ) → told_rows (rows_to_read k bytes ls)
+pub read_rows_tells : (k bytes : ℕ) (ls : List ℕ) → told (rows_to_read k bytes ls)
     ≡ row 4 (differ ls) (row 4 (not (eqb (bytes % k) 0)) (row 11 (ltb (places ls) (bytes / k)) (Told.answer (bytes / k))))
 unfolding rows_to_read
 read_rows_tells k bytes ls =
-    of_choice told_rows (differ ls) _ _
-    ∙ ap (row 4 (differ ls)) (of_choice told_rows (not (eqb (bytes % k) 0)) _ _
-    ∙ ap (row 4 (not (eqb (bytes % k) 0))) (of_choice told_rows (ltb (places ls) (bytes / k)) _ _))
+    of_choice told (differ ls) _ _
+    ∙ ap (row 4 (differ ls)) (of_choice told (not (eqb (bytes % k) 0)) _ _
+    ∙ ap (row 4 (not (eqb (bytes % k) 0))) (of_choice told (ltb (places ls) (bytes / k)) _ _))
 
 -- Writing rows: 4, 11.
-pub write_rows_tells : (k bytes : ℕ) (ls : List ℕ) → told_rows (rows_to_write k bytes ls)
+pub write_rows_tells : (k bytes : ℕ) (ls : List ℕ) → told (rows_to_write k bytes ls)
     ≡ row 4 (differ ls) (row 11 (ltb bytes (places ls * k)) (Told.answer (places ls)))
 unfolding rows_to_write
 write_rows_tells k bytes ls =
-    of_choice told_rows (differ ls) _ _
-    ∙ ap (row 4 (differ ls)) (of_choice told_rows (ltb bytes (places ls * k)) _ _)
+    of_choice told (differ ls) _ _
+    ∙ ap (row 4 (differ ls)) (of_choice told (ltb bytes (places ls * k)) _ _)
 
 -- The density of a count: 1.
-pub density_of_count-tells : (n d : ℕ) → told_count_density (density_of_count 29 n d) ≡ row 1 (ltb 29 d) (Told.answer (density_at n d))
+pub density_of_count-tells : (n d : ℕ) → told (density_of_count 29 n d) ≡ row 1 (ltb 29 d) (Told.answer (density_at n d))
 unfolding density_of_count
-density_of_count-tells n d = of_choice told_count_density (ltb 29 d) _ _
+density_of_count-tells n d = of_choice told (ltb 29 d) _ _
 
 -- ---- note 2
 moved_told : (o : Option Refusal) (L d : ℕ) (s : List (Entry ℕ)) (ozs ovs : List ℕ) → told_moved (moved_or o L d s ozs ovs).0 ≡ rows_of o (Told.answer (d, length s))
@@ -475,44 +490,44 @@ module _ (K L D : ℕ) (zs vs ozs ovs : List ℕ) where
       ∙ ap (row_at 5 (faulty_entry (first_fault K D zs))) (ap (rows_of (deep_refusal K L 0 zs)) (one_row (ltb (length ozs) (0 + length zs)) _ _))))
 
 -- ---- note 3
-laid-told : (a : Rows) (bytes : ℕ → List ℕ) (output : List ℕ) → told_rows (laid a bytes output).0 ≡ told_rows a
+laid-told : (a : Result ℕ Refusal) (bytes : ℕ → List ℕ) (output : List ℕ) → told (laid a bytes output).0 ≡ told a
 unfolding laid
-laid-told (Rows.Rows n) bytes output = refl
-laid-told (Rows.Refused r) bytes output = refl
+laid-told (Ok n) bytes output = refl
+laid-told (Err r) bytes output = refl
 
 -- Laying rows of k bytes out by column, and the way back: 4, 11.
 module _ (k bytes space : ℕ) where
   abbrev pub lay_told : Told ℕ
   lay_told = row 4 (not (named k)) (row 4 (not (eqb (bytes % k) 0)) (row 11 (ltb space bytes) (Told.answer (bytes / k))))
 
-  lay_tells : told_rows (rows_to_lay k bytes space) ≡ lay_told
+  lay_tells : told (rows_to_lay k bytes space) ≡ lay_told
   unfolding rows_to_lay
   lay_tells =
-      of_choice told_rows (not (named k)) _ _
-      ∙ ap (row 4 (not (named k))) (of_choice told_rows (not (eqb (bytes % k) 0)) _ _
-      ∙ ap (row 4 (not (eqb (bytes % k) 0))) (of_choice told_rows (ltb space bytes) _ _))
+      of_choice told (not (named k)) _ _
+      ∙ ap (row 4 (not (named k))) (of_choice told (not (eqb (bytes % k) 0)) _ _
+      ∙ ap (row 4 (not (eqb (bytes % k) 0))) (of_choice told (ltb space bytes) _ _))
 
 module _ (k : ℕ) (bytes output : List ℕ) where
-  pub rows_to_columns-tells : told_rows (rows_to_columns k bytes output).0 ≡ lay_told k (length bytes) (length output)
+  pub rows_to_columns-tells : told (rows_to_columns k bytes output).0 ≡ lay_told k (length bytes) (length output)
   unfolding rows_to_columns
   rows_to_columns-tells = laid-told (rows_to_lay k (length bytes) (length output)) _ output ∙ lay_tells k (length bytes) (length output)
 
-  pub columns_to_rows-tells : told_rows (columns_to_rows k bytes output).0 ≡ lay_told k (length bytes) (length output)
+  pub columns_to_rows-tells : told (columns_to_rows k bytes output).0 ≡ lay_told k (length bytes) (length output)
   unfolding columns_to_rows
   columns_to_rows-tells = laid-told (rows_to_lay k (length bytes) (length output)) _ output ∙ lay_tells k (length bytes) (length output)
 
 -- ---- note 6
-covered_told : (o : Option Refusal) (rs : List Range) (ss es : List ℕ) → told_covered (covered_or o rs ss es).0 ≡ rows_of o (Told.answer (length rs))
+covered_told : (o : Option Refusal) (rs : List Range) (ss es : List ℕ) → told (covered_or o rs ss es).0 ≡ rows_of o (Told.answer (length rs))
 covered_told none rs ss es = refl
 covered_told (some r) rs ss es = refl
 
-clipped_told : (o : Option Refusal) (l : List (Entry Float)) (zs : List ℕ) (vs : List Float) → told_clipped (clipped_or o l zs vs).0 ≡ rows_of o (Told.answer (length l))
+clipped_told : (o : Option Refusal) (l : List (Entry Float)) (zs : List ℕ) (vs : List Float) → told (clipped_or o l zs vs).0 ≡ rows_of o (Told.answer (length l))
 clipped_told none l zs vs = refl
 clipped_told (some r) l zs vs = refl
 
 -- Writing a coverage: 1, 4, 5, 11.
 module _ (D : ℕ) (zs ss es : List ℕ) where
-  pub coverage_tells : told_covered (coverage_call D zs ss es).0
+  pub coverage_tells : told (coverage_call D zs ss es).0
       ≡ row 1 (ltb 29 D)
       (row 4 (not (eqb (length ss) (length es)))
       (row_at 5 (faulty_entry (first_fault 29 D zs))
@@ -537,7 +552,7 @@ module _ (m : Given Float) (ss es : List ℕ) (zs : List ℕ) (vs : List Float) 
   abbrev pub unpaired_to_clip : Bool
   unpaired_to_clip = not (eqb (length m.zuniqs) (length m.values)) || (not (eqb (length ss) (length es)) || not (eqb (length zs) (length vs)))
 
-  pub clip_tells : told_clipped (clip_call m ss es zs vs).0
+  pub clip_tells : told (clip_call m ss es zs vs).0
       ≡ row 1 (ltb 29 m.depth)
       (row 4 unpaired_to_clip
       (row_at 5 (faulty_entry (first_fault 29 m.depth m.zuniqs))
@@ -562,7 +577,7 @@ module _ (m : Given Float) (ss es : List ℕ) (zs : List ℕ) (vs : List Float) 
       ∙ ap (row_at 5 (faulty_entry (first_fault 29 m.depth m.zuniqs))) (in_order (density_refusal 0 m.values) _ last)))
 
 -- ---- note 8
-asked_told : (o : Option Refusal) (f : Figures) → told_asked (asked_or o f) ≡ rows_of o (Told.answer (f.cells, f.entries, f.total))
+asked_told : (o : Option Refusal) (f : Figures) → told_asked (ok_unless o f) ≡ rows_of o (Told.answer (f.cells, f.entries, f.total))
 asked_told none f = refl
 asked_told (some r) f = refl
 

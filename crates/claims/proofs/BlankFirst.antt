@@ -10,12 +10,13 @@ use native.Mathlib.Omega.{arith}
 use lib.Ieee.{Float}
 use lib.ListN.{length}
 use borrow.Author.Tests.{le-leb}
+use Rattle.refusal.specs.Checks.{ok_unless}
 use Rattle.zuniq.specs.Cells.{n_hash}
 use Rattle.zuniq.proofs.Basics.{le_or_lt}
 use Rattle.protection.specs.Protected.{is_protected}
 use Rattle.merger.specs.Floats.{0·0}
-use Rattle.merger.specs.Merge.{merge_counts, merged_count, accept_counts}
-use Rattle.merger.specs.declared.CountMerge.{CountMerge}
+use Rattle.merger.specs.Merge.{merge_counts, merged, accept_counts}
+use Rattle.merger.specs.declared.Merge.{Merge}
 use Rattle.merger.proofs.Blank.{no_blank, not_blank, protected_blank_kept}
 use Rattle.merger.proofs.Protected.{protected_accepts_no_count}
 use Rattle.build.specs.Map.{Entry, Merger, defined_map}
@@ -28,7 +29,7 @@ use Rattle.build.proofs.Calls.{Sound, joining, calls_do_as_joined, joined_batche
 use Rattle.build.proofs.Sound.{count_calls-sound}
 use Rattle.combine.specs.Rules.{combined, split_count, defined_pool}
 use Rattle.combine.specs.Pool.{Given, entries, result_depth, pool_kept, pool_refusal, pool_over, pool_counts}
-use Rattle.combine.specs.Ask.{ask_refusal, figures_of, asked_or, ask_counts, figures_refusal, commit_refusal, commit_counts}
+use Rattle.combine.specs.Ask.{ask_refusal, figures_of, ask_counts, figures_refusal, commit_refusal, commit_counts}
 use Rattle.combine.specs.declared.counts.Figures.{Figures}
 use Rattle.claims.specs.Demand3.{AddCalls, first, done, joined_list}
 use Rattle.claims.specs.Former.{with_merger, merge_blank_first, accept_blank_first, NoBlankProtected, done_blank_first, pool_over_with, figures_by, commit_refusal_by}
@@ -37,11 +38,11 @@ use Rattle.claims.proofs.Demand3.{told, calls_are}
 -- ---- the merger
 module _ (K : ℕ) (P : List ℕ) (M : ℕ) (T : Float) (p h : ℕ) where
   blank_was_accepted : M ≤ p → accept_blank_first K P M T p h 0 0 0 0 ≡ some 0
-  unfolding merge_blank_first accept_blank_first merged_count
+  unfolding merge_blank_first accept_blank_first
   blank_was_accepted l = rw (le-leb M p l)
 
   -- "from parent depth M on, four zero counts with a listed parent were merged and now stay", with their chi, 0.
-  pub blank_was_merged : M ≤ p → is_protected K P p h ≡ true → (merge_blank_first K P M T p h 0 0 0 0 ≡ CountMerge.Merged 0) × (merge_counts K P M T p h 0 0 0 0 ≡ CountMerge.Kept 0·0)
+  pub blank_was_merged : M ≤ p → is_protected K P p h ≡ true → (merge_blank_first K P M T p h 0 0 0 0 ≡ Merge.Merged 0) × (merge_counts K P M T p h 0 0 0 0 ≡ Merge.Kept 0·0)
   unfolding merge_blank_first
   blank_was_merged l e = (rw (le-leb M p l), protected_blank_kept K P M T p h e)
 
@@ -57,9 +58,9 @@ module _ (K : ℕ) (P : List ℕ) (M : ℕ) (T : Float) (p h : ℕ) where
     unfolding accept_blank_first
     was_accepted n a = go (is_protected K P p h) refl
       where
-        go : (b : Bool) → is_protected K P p h ≡ b → merged_count (merge_blank_first K P M T p h n0 n1 n2 n3) ≡ some n
+        go : (b : Bool) → is_protected K P p h ≡ b → merged (merge_blank_first K P M T p h n0 n1 n2 n3) ≡ some n
         go true e = let kept = protected_accepts_no_count K P M T p h n0 n1 n2 n3 e in cc
-        go false e = ap merged_count (sym (merged_as_before (inl e))) ∙ (unfold accept_counts in a)
+        go false e = ap merged (sym (merged_as_before (inl e))) ∙ (unfold accept_counts in a)
 
 -- ---- the map
 module _ (K : ℕ) (P : List ℕ) (M : ℕ) (T : Float) (D : ℕ) (l : List (Entry ℕ)) where
@@ -83,11 +84,11 @@ module _ (K : ℕ) (P : List ℕ) (M : ℕ) (T : Float) (D : ℕ) (l : List (Ent
 
   pub alike : NoBlankProtected K P M (accept_counts K P M T) D l → Alike (accept_counts K P M T) (accept_blank_first K P M T) D l
   unfolding accept_counts accept_blank_first
-  alike free d h n0 n1 n2 n3 w = ap merged_count (four_as_before (accept_counts K P M T) free d h n0 n1 n2 n3 w)
+  alike free d h n0 n1 n2 n3 w = ap merged (four_as_before (accept_counts K P M T) free d h n0 n1 n2 n3 w)
 
   Alike-back : NoBlankProtected K P M (accept_blank_first K P M T) D l → Alike (accept_blank_first K P M T) (accept_counts K P M T) D l
   unfolding accept_counts accept_blank_first
-  Alike-back free d h n0 n1 n2 n3 w = ap merged_count (sym (four_as_before (accept_blank_first K P M T) free d h n0 n1 n2 n3 w))
+  Alike-back free d h n0 n1 n2 n3 w = ap merged (sym (four_as_before (accept_blank_first K P M T) free d h n0 n1 n2 n3 w))
 
   -- Whether it does is told by either merger alike.
   pub by_either_merger : NoBlankProtected K P M (accept_counts K P M T) D l ↔ NoBlankProtected K P M (accept_blank_first K P M T) D l
@@ -203,9 +204,9 @@ module _ (P : List ℕ) (l r : Given ℕ) (M : ℕ) (T : Float) (free : NoBlankP
   figures_as_before = rw pooled_as_before refl
 
   -- An ask: its figures.
-  pub ask_as_before : ask_counts P l r M T ≡ asked_or (ask_refusal P l r M T) (figures_by (accept_blank_first 29 P M T) l r)
+  pub ask_as_before : ask_counts P l r M T ≡ ok_unless (ask_refusal P l r M T) (figures_by (accept_blank_first 29 P M T) l r)
   unfolding ask_counts
-  ask_as_before = ap (asked_or (ask_refusal P l r M T)) figures_as_before
+  ask_as_before = ap (ok_unless (ask_refusal P l r M T)) figures_as_before
 
   -- A commit: also by number 16.
   pub commit_as_before : (f : Figures) (zs vs : List ℕ)

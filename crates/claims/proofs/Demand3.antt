@@ -1,4 +1,5 @@
 -- Demand 3 holds of every list of count add calls, and of pooling two maps so made, in one call or asked before done. Assumes nothing.
+use Rattle.std.specs.Prelude.{Result, Ok, Err}
 use mathlib.Core.Path.{◌≡◌, refl, ap, ap₂, sym, ◌∙◌, subst}
 use mathlib.Core.Bool.{true, false}
 use mathlib.Core.List.{List, [], ◌∷◌, map, reverse, reverse-reverse}
@@ -25,7 +26,7 @@ use Rattle.build.specs.Buffers.{zuniq_of, value_of, laid, zuniq_buffer, value_bu
 use Rattle.build.specs.Promises.{Any, Has, Rises, Covers, Sums}
 use Rattle.build.specs.Calls.{Buffers, Batch, Answer, Calls, cells, holding, answered, add_call, add_calls, joined_map, judge, join_by, join_calls, left}
 use Rattle.build.specs.Counts.{total_of, Report, counts_added, count_calls, add_counts}
-use Rattle.build.specs.declared.counts.CountsAdded.{CountsAdded}
+use Rattle.build.specs.declared.counts.Added.{Added as CountsAdded}
 use Rattle.build.proofs.Entries.{total-reverse}
 use Rattle.build.proofs.Rising.{Rises-has, Rises-in_range}
 use Rattle.build.proofs.Order.{Rises-iff_ascends, Rises-deeper_iff}
@@ -39,7 +40,6 @@ use Rattle.combine.specs.Rules.{defined_pool}
 use Rattle.combine.specs.Slices.{entries_of}
 use Rattle.combine.specs.Pool.{entries, maps_refusal, pool_refusal, pool_over, pool_counts}
 use Rattle.combine.specs.Ask.{ask_refusal, figures_of, ask_counts, commit_refusal, commit_counts}
-use Rattle.combine.specs.declared.counts.Asked.{Asked}
 use Rattle.combine.specs.declared.counts.Figures.{Figures}
 use Rattle.combine.proofs.Kept.{pool_total}
 use Rattle.combine.proofs.Given.{entries_laid}
@@ -51,7 +51,7 @@ pub mergers_sum : (K : ℕ) (P : List ℕ) (M : ℕ) (T : Float) → Sums (accep
 mergers_sum K P M T d h k0 k1 k2 k3 x q = accepted_count_is_sum K P M T d h k0 k1 k2 k3 x q
 
 -- ---- the calls as their contract has them
-abbrev pub told : Buffers ℕ × List (Answer Refusal Report) → Buffers ℕ × List CountsAdded
+abbrev pub told : Buffers ℕ × List (Answer Refusal Report) → Buffers ℕ × List (Result CountsAdded Refusal)
 told t = (t.0, map counts_added t.1)
 
 -- A list of calls of `add_counts`, each handed what the one before left and answered, is one of `add_call`.
@@ -69,7 +69,7 @@ module _ (K : ℕ) (P : List ℕ) (D M : ℕ) (T : Float) where
       made = run counting.accept (held K b.number b.zuniqs b.values) (cells counting c)
 
       -- the call, by its refusal, and the calls behind it
-      first_call : Option Refusal → Buffers ℕ × List CountsAdded
+      first_call : Option Refusal → Buffers ℕ × List (Result CountsAdded Refusal)
       first_call o =
           let r = answered counting o b made in
           let more = calls K P D M T (record { number = held_after b.number (counts_added r.1); zuniqs = r.0.zuniqs; values = r.0.values }) cs in
@@ -127,7 +127,7 @@ module _ (K : ℕ) (a : AddCalls) where
       let start : joined_map g none ≡ [] = ap reverse (defined_map-nil (accept_counts K a.parents a.M a.T) a.D) in
       let due_is = report_is_due g (length a.zuniqs) (length a.counts) none a.batches in
       let last : last_report 0 0 (due K a).1 ≡ (length (reverse m), total_of (reverse m)) = rw start at due_is in
-      ap (λ (t : Buffers ℕ × List CountsAdded). last_report 0 0 t.1) as_due ∙ last ∙ (λ i. (length-reverse m i, total-reverse (λ n. n) m i))
+      ap (λ (t : Buffers ℕ × List (Result CountsAdded Refusal)). last_report 0 0 t.1) as_due ∙ last ∙ (λ i. (length-reverse m i, total-reverse (λ n. n) m i))
 
   pub add_calls_claim : Claim K a
   add_calls_claim =
@@ -164,8 +164,8 @@ module _ (a : AddCalls) where
   given-stands =
       let w = joined_map-stands (g 29 a) (count_calls-sound 29 a.parents a.D a.M a.T) (first a) a.batches in
       let m = reverse-reverse (map_of 29 a) in (
-        ap (λ (t : Buffers ℕ × List CountsAdded). take t.0.number t.0.zuniqs) (as_due 29 a) ∙ w.0 ∙ ap (map (zuniq_of 29)) m,
-        ap (λ (t : Buffers ℕ × List CountsAdded). take t.0.number t.0.values) (as_due 29 a) ∙ w.1 ∙ ap (map value_of) m,
+        ap (λ (t : Buffers ℕ × List (Result CountsAdded Refusal)). take t.0.number t.0.zuniqs) (as_due 29 a) ∙ w.0 ∙ ap (map (zuniq_of 29)) m,
+        ap (λ (t : Buffers ℕ × List (Result CountsAdded Refusal)). take t.0.number t.0.values) (as_due 29 a) ∙ w.1 ∙ ap (map value_of) m,
       )
 
   pub given-entries : entries (given a) ≡ map_of 29 a
@@ -191,11 +191,11 @@ module _ (P : List ℕ) (a b : AddCalls) (M : ℕ) (T : Float) (zs vs : List ℕ
       deeper c u = ((Rises-deeper_iff c.D (max a.D b.D) u (map_of 29 c)).0 (defined_map-rises (accept_counts 29 c.parents c.M c.T) c.D (joined_list 29 c))).1
 
   pool_is_due : pool_refusal P (given a) (given b) M T (length zs) (length vs) ≡ none → let p = pool_of P a b M T in
-      pool_counts P (given a) (given b) M T zs vs ≡ (CountsAdded.Added (length p) (total_of (map_of 29 a) + total_of (map_of 29 b)), zuniq_buffer 29 (length zs) p, value_buffer 0 (length vs) p)
+      pool_counts P (given a) (given b) M T zs vs ≡ (Ok (record { entries = length p; total = total_of (map_of 29 a) + total_of (map_of 29 b) }), zuniq_buffer 29 (length zs) p, value_buffer 0 (length vs) p)
   unfolding pool_counts pool_over
   pool_is_due e = rw (e, given-entries a, given-entries b, pool_total_is) refl
 
-  pool_refused : (x : Refusal) → pool_refusal P (given a) (given b) M T (length zs) (length vs) ≡ some x → pool_counts P (given a) (given b) M T zs vs ≡ (CountsAdded.Refused x, zs, vs)
+  pool_refused : (x : Refusal) → pool_refusal P (given a) (given b) M T (length zs) (length vs) ≡ some x → pool_counts P (given a) (given b) M T zs vs ≡ (Err x, zs, vs)
   unfolding pool_counts pool_over
   pool_refused x e = rw e refl
 
@@ -215,21 +215,21 @@ module _ (P : List ℕ) (a b : AddCalls) (M : ℕ) (T : Float) (zs vs : List ℕ
       let pool = defined_pool (accept_counts 29 P M T) (max a.D b.D) (map_of 29 a) (map_of 29 b) in
       rw (given-entries a, given-entries b, ← length-reverse pool, ← total-reverse (λ n. n) pool, pool_total_is) refl
 
-  ask_is_due : ask_refusal P (given a) (given b) M T ≡ none → ask_counts P (given a) (given b) M T ≡ Asked.Answer (figures_due P a b M T)
+  ask_is_due : ask_refusal P (given a) (given b) M T ≡ none → ask_counts P (given a) (given b) M T ≡ Ok (figures_due P a b M T)
   unfolding ask_counts
-  ask_is_due e = rw e (ap Asked.Answer figures_are_due)
+  ask_is_due e = rw e (ap Ok figures_are_due)
 
   module _ (f : Figures) where
     commit_has_due : commit_refusal P (given a) (given b) M T f (length zs) (length vs) ≡ none → f ≡ figures_due P a b M T
     commit_has_due e = (answered_ask P (given a) (given b) M T f (committed_is_asked P (given a) (given b) M T f (length zs) (length vs) e)).1 ∙ figures_are_due
 
     commit_is_due : commit_refusal P (given a) (given b) M T f (length zs) (length vs) ≡ none → let p = pool_of P a b M T in
-        commit_counts P (given a) (given b) M T f zs vs ≡ (CountsAdded.Added (length p) (total_of (map_of 29 a) + total_of (map_of 29 b)), zuniq_buffer 29 (length zs) p, value_buffer 0 (length vs) p)
+        commit_counts P (given a) (given b) M T f zs vs ≡ (Ok (record { entries = length p; total = total_of (map_of 29 a) + total_of (map_of 29 b) }), zuniq_buffer 29 (length zs) p, value_buffer 0 (length vs) p)
     commit_is_due e =
         commit_of_asked P (given a) (given b) M T f zs vs (committed_is_asked P (given a) (given b) M T f (length zs) (length vs) e)
         ∙ pool_is_due (committed_passes P (given a) (given b) M T f (length zs) (length vs) e)
 
-    commit_refused : (x : Refusal) → commit_refusal P (given a) (given b) M T f (length zs) (length vs) ≡ some x → commit_counts P (given a) (given b) M T f zs vs ≡ (CountsAdded.Refused x, zs, vs)
+    commit_refused : (x : Refusal) → commit_refusal P (given a) (given b) M T f (length zs) (length vs) ≡ some x → commit_counts P (given a) (given b) M T f zs vs ≡ (Err x, zs, vs)
     unfolding commit_counts pool_over
     commit_refused x e = rw e refl
 

@@ -1,5 +1,7 @@
 -- Note 7 of 02: "An empty list changes nothing." A law for every call that takes a list, against the former definitions (specs/Unlisted).
 -- Assumes nothing.
+use Rattle.std.specs.Prelude as Prelude
+use Rattle.std.specs.Prelude.{None, Some, Result, Ok, Err}
 use mathlib.Core.Path.{◌≡◌, refl, ap, fun_ext}
 use mathlib.Core.Bool.{Bool, true, false, cond}
 use mathlib.Core.List.{List, [], reverse}
@@ -9,24 +11,20 @@ use lib.Dec.{ltb}
 use lib.Ieee.{Float, is_nan}
 use lib.ListN.{length, take}
 use borrow.Author.Tests.{lt-leb}
-use Rattle.refusal.specs.Checks.{or_else, refused_if}
+use Rattle.refusal.specs.Checks.{or_else, refused_if, ok_unless}
 use Rattle.refusal.specs.declared.Refusal.{Refusal}
 use Rattle.zuniq.specs.Cells.{n_hash}
 use Rattle.protection.proofs.Listed.{nothing_protected}
 use Rattle.protection.proofs.Lists.{empty_list_accepted}
-use Rattle.merger.specs.Merge.{merge_by_chi, merge_counts, merged_count, accept_counts, quad_refusal, count_merger_or, count_merger, unit_density, merge_densities_by_chi, merge_densities_with, merge_densities, merged_density, accept_densities, first_invalid, density_merger_or, density_merger}
-use Rattle.merger.specs.declared.CountMerge.{CountMerge}
-use Rattle.merger.specs.declared.CountMerger.{CountMerger}
-use Rattle.merger.specs.declared.DensityMerge.{DensityMerge}
-use Rattle.merger.specs.declared.DensityMerger.{DensityMerger}
+use Rattle.merger.specs.Merge.{merge_by_chi, merge_counts, merged, accept_counts, quad_refusal, count_merger, unit_density, merge_densities_by_chi, merge_densities_with, merge_densities, accept_densities, first_invalid, invalid_child, density_merger}
+use Rattle.merger.specs.declared.Merge.{Merge}
 use Rattle.build.specs.Map.{Entry}
 use Rattle.build.specs.Buffers.{held, batch}
 use Rattle.build.specs.Stack.{run}
 use Rattle.build.specs.Calls.{Buffers, Answer, answered, add_call}
 use Rattle.build.specs.Counts.{counts_refusal, count_calls, Report, counts_added, add_counts}
 use Rattle.build.specs.Densities.{densities_refusal, density_calls, densities_added, add_densities}
-use Rattle.build.specs.declared.counts.CountsAdded.{CountsAdded}
-use Rattle.build.specs.declared.densities.DensitiesAdded.{DensitiesAdded}
+use Rattle.build.specs.declared.counts.Added.{Added as CountsAdded}
 use Rattle.combine.specs.Rules.{defined_pool, defined_product}
 use Rattle.combine.specs.Pool.{Given, entries, result_depth, pool_input_refusal, pool_refusal, pool_over, pool_counts, product_input_refusal, product_refusal, product_over, product_densities}
 use Rattle.claims.specs.Unlisted.{former_merge_counts, former_accept_counts, former_accept_densities, former_count_merger, former_density_merger, former_counts_refusal, former_count_calls, former_add_counts, former_densities_refusal, former_density_calls, former_add_densities, former_pool_refusal, former_pool_counts, former_product_refusal, former_product_densities}
@@ -40,7 +38,7 @@ module _ (K M : ℕ) (T : Float) where
   pub accepts_counts_as_before : accept_counts K [] M T ≡ former_accept_counts M T
   unfolding accept_counts former_accept_counts
   accepts_counts_as_before =
-      fun_ext (λ p. fun_ext (λ h. fun_ext (λ n0. fun_ext (λ n1. fun_ext (λ n2. fun_ext (λ n3. ap merged_count (merges_as_before p h n0 n1 n2 n3)))))))
+      fun_ext (λ p. fun_ext (λ h. fun_ext (λ n0. fun_ext (λ n1. fun_ext (λ n2. fun_ext (λ n3. ap merged (merges_as_before p h n0 n1 n2 n3)))))))
 
 module _ (M : ℕ) (T : Float) where
   densities_as_before : (p h : ℕ) (m0 m1 m2 m3 : Float) → merge_densities [] M T p h m0 m1 m2 m3 ≡ merge_densities_by_chi (unit_density p) M T p h m0 m1 m2 m3
@@ -50,7 +48,7 @@ module _ (M : ℕ) (T : Float) where
   pub accepts_densities_as_before : accept_densities [] M T ≡ former_accept_densities M T
   unfolding accept_densities former_accept_densities
   accepts_densities_as_before =
-      fun_ext (λ p. fun_ext (λ h. fun_ext (λ m0. fun_ext (λ m1. fun_ext (λ m2. fun_ext (λ m3. ap merged_density (densities_as_before p h m0 m1 m2 m3)))))))
+      fun_ext (λ p. fun_ext (λ h. fun_ext (λ m0. fun_ext (λ m1. fun_ext (λ m2. fun_ext (λ m3. ap merged (densities_as_before p h m0 m1 m2 m3)))))))
 
   -- The calls, of a parent whose hash is one of its depth.
   pub count_merger-as_before : (p h n0 n1 n2 n3 : ℕ) → h < n_hash p → count_merger [] M T p h n0 n1 n2 n3 ≡ former_count_merger M T p n0 n1 n2 n3
@@ -62,33 +60,30 @@ module _ (M : ℕ) (T : Float) where
       hash_unseen = unfold former_merge_counts in unfold merge_by_chi in refl
 
       go : (a b c d : Bool)
-          → count_merger_or (or_else (or_else (refused_if a Refusal.DepthOutOfRange) (or_else (refused_if b Refusal.DepthThresholdOutOfRange) (or_else (refused_if c Refusal.Chi2ThresholdIsNan) none))) (refused_if d (Refusal.CountOverflow 0))) (former_merge_counts M T p h n0 n1 n2 n3)
-          ≡ cond a (CountMerger.Refused Refusal.DepthOutOfRange) (cond b (CountMerger.Refused Refusal.DepthThresholdOutOfRange) (cond c (CountMerger.Refused Refusal.Chi2ThresholdIsNan) (cond d (CountMerger.Refused (Refusal.CountOverflow 0)) (CountMerger.Answer (former_merge_counts M T p 0 n0 n1 n2 n3)))))
+          → ok_unless (or_else (or_else (refused_if a Refusal.DepthOutOfRange) (or_else (refused_if b Refusal.DepthThresholdOutOfRange) (or_else (refused_if c Refusal.Chi2ThresholdIsNan) none))) (refused_if d (Refusal.CountOverflow 0))) (former_merge_counts M T p h n0 n1 n2 n3)
+          ≡ cond a (Err Refusal.DepthOutOfRange) (cond b (Err Refusal.DepthThresholdOutOfRange) (cond c (Err Refusal.Chi2ThresholdIsNan) (cond d (Err (Refusal.CountOverflow 0)) (Ok (former_merge_counts M T p 0 n0 n1 n2 n3)))))
       go true b c d = refl
       go false true c d = refl
       go false false true d = refl
       go false false false true = refl
-      go false false false false = ap (λ (m : CountMerge). CountMerger.Answer m) hash_unseen
+      go false false false false = ap (λ (m : Merge ℕ). Ok m) hash_unseen
 
   pub density_merger-as_before : (p h : ℕ) (m0 m1 m2 m3 : Float) → h < n_hash p → density_merger [] M T p h m0 m1 m2 m3 ≡ former_density_merger M T p m0 m1 m2 m3
   unfolding density_merger quad_refusal former_density_merger
   density_merger-as_before p h m0 m1 m2 m3 l =
-      rw (empty_list_accepted 29, lt-leb (n_hash p) h l, densities_as_before p h m0 m1 m2 m3) (go (ltb 28 p) (ltb 29 M) (is_nan T) (ltb (first_invalid m0 m1 m2 m3) 4))
+      rw (empty_list_accepted 29, lt-leb (n_hash p) h l, densities_as_before p h m0 m1 m2 m3) (go (ltb 28 p) (ltb 29 M) (is_nan T) (first_invalid m0 m1 m2 m3))
     where
-      child : ℕ
-      child = first_invalid m0 m1 m2 m3
-
       hash_unseen : merge_densities_by_chi (unit_density p) M T p h m0 m1 m2 m3 ≡ merge_densities_by_chi (unit_density p) M T p 0 m0 m1 m2 m3
       hash_unseen = unfold merge_densities_by_chi in refl
 
-      go : (a b c d : Bool)
-          → density_merger_or (or_else (or_else (refused_if a Refusal.DepthOutOfRange) (or_else (refused_if b Refusal.DepthThresholdOutOfRange) (or_else (refused_if c Refusal.Chi2ThresholdIsNan) none))) (refused_if d (Refusal.InvalidDensity child))) (merge_densities_by_chi (unit_density p) M T p h m0 m1 m2 m3)
-          ≡ cond a (DensityMerger.Refused Refusal.DepthOutOfRange) (cond b (DensityMerger.Refused Refusal.DepthThresholdOutOfRange) (cond c (DensityMerger.Refused Refusal.Chi2ThresholdIsNan) (cond d (DensityMerger.Refused (Refusal.InvalidDensity child)) (DensityMerger.Answer (merge_densities_by_chi (unit_density p) M T p 0 m0 m1 m2 m3)))))
-      go true b c d = refl
-      go false true c d = refl
-      go false false true d = refl
-      go false false false true = refl
-      go false false false false = ap (λ (m : DensityMerge). DensityMerger.Answer m) hash_unseen
+      go : (a b c : Bool) (child : Prelude.Option ℕ)
+          → ok_unless (or_else (or_else (refused_if a Refusal.DepthOutOfRange) (or_else (refused_if b Refusal.DepthThresholdOutOfRange) (or_else (refused_if c Refusal.Chi2ThresholdIsNan) none))) (invalid_child child)) (merge_densities_by_chi (unit_density p) M T p h m0 m1 m2 m3)
+          ≡ cond a (Err Refusal.DepthOutOfRange) (cond b (Err Refusal.DepthThresholdOutOfRange) (cond c (Err Refusal.Chi2ThresholdIsNan) (ok_unless (invalid_child child) (merge_densities_by_chi (unit_density p) M T p 0 m0 m1 m2 m3))))
+      go true b c child = refl
+      go false true c child = refl
+      go false false true child = refl
+      go false false false (Some child) = refl
+      go false false false None = ap (λ (m : Merge Float). Ok m) hash_unseen
 
 -- ---- adding
 -- Two calls that lay out and report alike answer alike.
@@ -100,10 +95,10 @@ densities_alike : (D M : ℕ) (T : Float) (o : Option Refusal) (b : Buffers Floa
 densities_alike D M T none b s = refl
 densities_alike D M T (some r) b s = refl
 
-abbrev counts_told : Buffers ℕ × Answer Refusal Report → CountsAdded × List ℕ × List ℕ
+abbrev counts_told : Buffers ℕ × Answer Refusal Report → Result CountsAdded Refusal × List ℕ × List ℕ
 counts_told t = (counts_added t.1, t.0.zuniqs, t.0.values)
 
-abbrev densities_told : Buffers Float × Answer Refusal ℕ → DensitiesAdded × List ℕ × List Float
+abbrev densities_told : Buffers Float × Answer Refusal ℕ → Result ℕ Refusal × List ℕ × List Float
 densities_told t = (densities_added t.1, t.0.zuniqs, t.0.values)
 
 -- Adding counts, to wide and to narrow maps.

@@ -1,6 +1,6 @@
 -- The starred cases of the scope and those of the requests, as one joint table: each row is a test that is computed from the
 -- definitions that the contracts of the calls use, and all of them hold. Assumes nothing.
-use Rattle.std.specs.Prelude.{◌≡◌, refl, Bool, true, false, not, ◌&&◌, List, [], ◌∷◌, ◌++◌, ℕ, zero, suc, ◌+◌, ◌*◌, ◌-◌, eqb, ℤ, pos, negsuc, neg_ℤ, length, Float}
+use Rattle.std.specs.Prelude.{Result, Ok, Err, ◌≡◌, refl, Bool, true, false, not, ◌&&◌, List, [], ◌∷◌, ◌++◌, ℕ, zero, suc, ◌+◌, ◌*◌, ◌-◌, eqb, ℤ, pos, negsuc, neg_ℤ, length, Float}
 use Rattle.std.proofs.Math.Option.{Option, none, some}
 use Rattle.std.specs.Float.Ieee as Ieee
 use Rattle.std.specs.Float.{nan, inf, fin}
@@ -9,14 +9,12 @@ use Rattle.zuniq.specs.Cells.{n_hash, lies_in, overlap, start, end}
 use Rattle.refusal.specs.Refusals.{number_of, place_of}
 use Rattle.refusal.specs.declared.Refusal.{Refusal}
 use Rattle.zuniq.specs.Codec.{zuniq, encode, hash_at, is_zuniq_at, cell_up_to, decode, overlap_of, overlap_test}
-use Rattle.zuniq.specs.declared.Encoded.{Encoded}
 use Rattle.zuniq.specs.declared.Decoded.{Decoded}
 use Rattle.protection.specs.Protected.{is_listed, is_protected, refusal_from, protected_refusal}
 use Rattle.merger.specs.Floats.{0·0, 1·0, invalid_density}
-use Rattle.merger.specs.Merge.{chi_of_counts, merge_by_chi, merge_counts, merged_count, accept_counts, quad_refusal, count_merger}
+use Rattle.merger.specs.Merge.{chi_of_counts, merge_by_chi, merge_counts, accept_counts, quad_refusal, count_merger}
 use Rattle.merger.specs.ChiError.{Fraction, exact_value, product_of, triples_of, distance, chi_within, chi_exact}
-use Rattle.merger.specs.declared.CountMerge.{CountMerge}
-use Rattle.merger.specs.declared.CountMerger.{CountMerger}
+use Rattle.merger.specs.declared.Merge.{Merge}
 use Rattle.mom.specs.Map.{is_yes, overlaps, fault_after, fault_of, fault_at, at_or, fault_from, first_fault}
 use Rattle.build.specs.Map.{Entry, entry, joined, listed, whole, tops, defined_map}
 use Rattle.build.specs.Stack.{step, collapse_up_to, collapse, run}
@@ -24,7 +22,7 @@ use Rattle.build.specs.Buffers.{batch, laid, filled, read_onto, held}
 use Rattle.build.specs.Add.{settings_refusal, lengths_refusal, cell_refusal, cells_refusal, sum_refusal, total_refusal, map_refusal, sum_of, cell_end, map_end, space_refusal}
 use Rattle.build.specs.Calls.{Buffers, add_call}
 use Rattle.build.specs.Counts.{counts_refusal, add_counts}
-use Rattle.build.specs.declared.counts.CountsAdded.{CountsAdded}
+use Rattle.build.specs.declared.counts.Added.{Added as CountsAdded}
 use Rattle.build.specs.Densities.{density_refusal}
 use Rattle.combine.specs.Overlay.{some_entry, fits, part, value_in, overlay_in, overlay}
 use Rattle.combine.specs.Rules.{kept, combined, extras, split_count, defined_pool}
@@ -32,17 +30,13 @@ use Rattle.combine.specs.Slices.{entries_of}
 use Rattle.combine.specs.Pool as Combining
 use Rattle.combine.specs.Pool.{Given, pairs_refusal, places_refusal, pool_counts}
 use Rattle.combine.specs.Ask.{figures_of, ask_counts, figures_refusal, commit_refusal, commit_counts}
-use Rattle.combine.specs.declared.counts.Asked.{Asked}
 use Rattle.combine.specs.declared.counts.Figures.{Figures}
 use Rattle.moving.specs.Moving.{is_deeper, deep_refusal, entries_refusal, moving_refusal, moved_or, moved}
 use Rattle.moving.specs.declared.Moved.{Moved}
 use Rattle.coverage.specs.Ranges.{Range, range, from_of, to_of, ranges_of, in_ranges, all_in_ranges, in_coverage, join_touching, padded, ranges_refusal}
 use Rattle.coverage.specs.Coverage.{entry_ranges, coverage_of, coverage_input_refusal, coverage_refusal, coverage_call}
-use Rattle.coverage.specs.declared.Covered.{Covered}
 use Rattle.clip.specs.Clip.{value_over, in_both, clip_in, clipped}
 use Rattle.clip.specs.Call.{clip_input_refusal, clip_refusal, clip_call}
-use Rattle.clip.specs.declared.Clipped.{Clipped}
-use Rattle.rows.specs.declared.Rows.{Rows}
 use Rattle.columns.specs.Columns as Columns
 use Rattle.columns.specs.Columns.{by_column, by_row, named, rows_to_lay, rows_to_columns, columns_to_rows}
 use Rattle.claims.specs.Demand3.{calls}
@@ -54,9 +48,9 @@ every (row ∷ rows) = row && every rows
 
 -- ---- what a row of section 1 says
 -- encoding answers this zuniq
-is_zuniq : Encoded → ℕ → Bool
-is_zuniq (Encoded.Zuniq z) answer = eqb z answer
-is_zuniq (Encoded.Refused r) answer = false
+is_zuniq : Result ℕ Refusal → ℕ → Bool
+is_zuniq (Ok z) answer = eqb z answer
+is_zuniq (Err r) answer = false
 
 -- decoding answers this cell
 is_cell : Decoded → ℕ → ℕ → Bool
@@ -98,16 +92,16 @@ section1 =
 
 -- ---- what a row of section 2 says
 -- the count merger answers that the four are kept, with this chi
-kept_with : Float → CountMerger → Bool
-kept_with chi (CountMerger.Answer (CountMerge.Merged n)) = false
-kept_with chi (CountMerger.Answer (CountMerge.Kept x)) = Ieee.eq x chi
-kept_with chi (CountMerger.Refused r) = false
+kept_with : Float → Result (Merge ℕ) Refusal → Bool
+kept_with chi (Ok (Merge.Merged n)) = false
+kept_with chi (Ok (Merge.Kept x)) = Ieee.eq x chi
+kept_with chi (Err r) = false
 
 -- the count merger answers this count
-merged_to : ℕ → CountMerger → Bool
-merged_to n (CountMerger.Answer (CountMerge.Merged m)) = eqb m n
-merged_to n (CountMerger.Answer (CountMerge.Kept x)) = false
-merged_to n (CountMerger.Refused r) = false
+merged_to : ℕ → Result (Merge ℕ) Refusal → Bool
+merged_to n (Ok (Merge.Merged m)) = eqb m n
+merged_to n (Ok (Merge.Kept x)) = false
+merged_to n (Err r) = false
 
 3·0 : Float
 3·0 = fin false 3 (pos 0)
@@ -157,7 +151,7 @@ times (suc n) a = a ∷ times n a
 
 -- ---- section 4
 pub section4 : List Bool
-unfolding is_listed is_protected is_map from times 3·5 joined listed whole tops defined_map batch accept_counts merged_count merge_counts merge_by_chi chi_of_counts Ieee.add Ieee.sub Ieee.mul Ieee.div Ieee.of_int Ieee.lt
+unfolding is_listed is_protected is_map from times 3·5 joined listed whole tops defined_map batch accept_counts merge_counts merge_by_chi chi_of_counts Ieee.add Ieee.sub Ieee.mul Ieee.div Ieee.of_int Ieee.lt
 section4 =
     -- "D=2, cells 0 to 15 of count 1, T=3.5: (0,0) 16"
     is_map (defined_map (accept_counts 29 [] 0 3·5) 2 (batch 2 (from 16 0) (times 16 1))) (0 ∷ 0 ∷ 16 ∷ [])
@@ -174,7 +168,7 @@ section4 =
 
 -- ---- section 5
 pub section5 : List Bool
-unfolding is_listed is_protected is_map 2·0 3·5 joined listed whole tops defined_map some_entry fits part value_in overlay_in overlay kept combined extras split_count lies_in overlap accept_counts merged_count merge_counts merge_by_chi chi_of_counts Ieee.add Ieee.sub Ieee.mul Ieee.div Ieee.of_int Ieee.lt
+unfolding is_listed is_protected is_map 2·0 3·5 joined listed whole tops defined_map some_entry fits part value_in overlay_in overlay kept combined extras split_count lies_in overlap accept_counts merge_counts merge_by_chi chi_of_counts Ieee.add Ieee.sub Ieee.mul Ieee.div Ieee.of_int Ieee.lt
 section5 =
     -- "Pool of (0,0) 10 and (1,1) 3 at T=2: 3, 6, 2, 2"
     is_map (defined_pool (accept_counts 29 [] 0 2·0) 1 (entry 0 0 10 ∷ []) (entry 1 1 3 ∷ [])) (1 ∷ 0 ∷ 3 ∷ 1 ∷ 1 ∷ 6 ∷ 1 ∷ 2 ∷ 2 ∷ 1 ∷ 3 ∷ 2 ∷ [])
@@ -184,7 +178,7 @@ section5 =
 
 -- ---- note 1 of 02
 pub note1 : List Bool
-unfolding is_listed is_protected is_map from times joined listed whole tops defined_map batch accept_counts merged_count merge_counts merge_by_chi chi_of_counts Ieee.add Ieee.sub Ieee.mul Ieee.div Ieee.of_int Ieee.lt
+unfolding is_listed is_protected is_map from times joined listed whole tops defined_map batch accept_counts merge_counts merge_by_chi chi_of_counts Ieee.add Ieee.sub Ieee.mul Ieee.div Ieee.of_int Ieee.lt
 note1 =
     -- "each cell stays as it is, since there is no parent": D=0, the twelve cells of count 1, T infinite
     is_map (defined_map (accept_counts 29 [] 0 (inf false)) 0 (batch 0 (from 12 0) (times 12 1)))
@@ -199,14 +193,14 @@ is_list (x ∷ xs) [] = false
 is_list (x ∷ xs) (y ∷ ys) = eqb x y && is_list xs ys
 
 -- moving answers this depth and this number of entries, and leaves these zuniqs and counts in the output
-leaves : Moved × List ℕ × List ℕ → ℕ → ℕ → List ℕ → List ℕ → Bool
-leaves (Moved.Map depth entries, zs, vs) d n xs ws = eqb depth d && (eqb entries n && (is_list zs xs && is_list vs ws))
-leaves (Moved.Refused r, zs, vs) d n xs ws = false
+leaves : Result Moved Refusal × List ℕ × List ℕ → ℕ → ℕ → List ℕ → List ℕ → Bool
+leaves (Ok m, zs, vs) d n xs ws = eqb m.depth d && (eqb m.entries n && (is_list zs xs && is_list vs ws))
+leaves (Err r, zs, vs) d n xs ws = false
 
 -- moving is refused by this number, with this place, and leaves the output, which held 9 everywhere, as it was
-refuses : ℕ → ℕ → Moved × List ℕ × List ℕ → Bool
-refuses number place (Moved.Map depth entries, zs, vs) = false
-refuses number place (Moved.Refused r, zs, vs) = eqb (number_of r) number && (eqb (place_of r) place && (is_list zs (times (length zs) 9) && is_list vs (times (length vs) 9)))
+refuses : ℕ → ℕ → Result Moved Refusal × List ℕ × List ℕ → Bool
+refuses number place (Ok m, zs, vs) = false
+refuses number place (Err r, zs, vs) = eqb (number_of r) number && (eqb (place_of r) place && (is_list zs (times (length zs) 9) && is_list vs (times (length vs) 9)))
 
 -- ---- note 2 of 02: codes of narrow zuniqs, and moving
 pub note2 : List Bool
@@ -239,14 +233,14 @@ note2 =
 
 -- ---- what a row of note 3 says
 -- laying out, or the way back, answers this number of rows and leaves these bytes in the output
-lays : Rows × List ℕ → ℕ → List ℕ → Bool
-lays (Rows.Rows number, bytes) n xs = eqb number n && is_list bytes xs
-lays (Rows.Refused r, bytes) n xs = false
+lays : Result ℕ Refusal × List ℕ → ℕ → List ℕ → Bool
+lays (Ok number, bytes) n xs = eqb number n && is_list bytes xs
+lays (Err r, bytes) n xs = false
 
 -- it is refused by this number, with place 0, and leaves the output, which held 9 everywhere, as it was
-refuses_rows : ℕ → Rows × List ℕ → Bool
-refuses_rows number (Rows.Rows n, bytes) = false
-refuses_rows number (Rows.Refused r, bytes) = eqb (number_of r) number && (eqb (place_of r) 0 && is_list bytes (times (length bytes) 9))
+refuses_rows : ℕ → Result ℕ Refusal × List ℕ → Bool
+refuses_rows number (Ok n, bytes) = false
+refuses_rows number (Err r, bytes) = eqb (number_of r) number && (eqb (place_of r) 0 && is_list bytes (times (length bytes) 9))
 
 -- two rows that hold the numbers from 1 on, by column
 columns8 : List ℕ
@@ -286,16 +280,16 @@ note3 =
 
 -- ---- what a row of note 4 says
 -- the count merger is refused by this number, with place 0
-refuses_four : ℕ → CountMerger → Bool
-refuses_four number (CountMerger.Answer m) = false
-refuses_four number (CountMerger.Refused r) = eqb (number_of r) number && eqb (place_of r) 0
+refuses_four : ℕ → Result (Merge ℕ) Refusal → Bool
+refuses_four number (Ok m) = false
+refuses_four number (Err r) = eqb (number_of r) number && eqb (place_of r) 0
 
 −1·0 : Float
 −1·0 = fin true 1 (pos 0)
 
 -- ---- note 4 of 02: blank sky; the parent depth is 1, and M = 0 unless given
 pub note4 : List Bool
-unfolding is_listed is_protected refusal_from protected_refusal quad_refusal n_hash kept_with merged_to refuses_four −1·0 is_map from times joined listed whole tops defined_map batch some_entry fits part value_in overlay_in overlay kept combined extras split_count lies_in overlap accept_counts merged_count count_merger merge_counts merge_by_chi chi_of_counts Ieee.add Ieee.sub Ieee.mul Ieee.div Ieee.of_int Ieee.lt Ieee.eq is_nan
+unfolding is_listed is_protected refusal_from protected_refusal quad_refusal n_hash kept_with merged_to refuses_four −1·0 is_map from times joined listed whole tops defined_map batch some_entry fits part value_in overlay_in overlay kept combined extras split_count lies_in overlap accept_counts count_merger merge_counts merge_by_chi chi_of_counts Ieee.add Ieee.sub Ieee.mul Ieee.div Ieee.of_int Ieee.lt Ieee.eq is_nan
 note4 =
     -- "Four siblings of count 0 now merge at any T": 0, −1, −∞
     merged_to 0 (count_merger [] 0 0·0 1 0 0 0 0 0)
@@ -326,14 +320,14 @@ are_ranges (r ∷ rs) (a ∷ []) = false
 are_ranges (r ∷ rs) (a ∷ b ∷ rest) = eqb (from_of r) a && (eqb (to_of r) b && are_ranges rs rest)
 
 -- writing a coverage answers this number of ranges, and leaves these starts and ends in the output
-covers : Covered × List ℕ × List ℕ → ℕ → List ℕ → List ℕ → Bool
-covers (Covered.Ranges number, ss, es) n xs ys = eqb number n && (is_list ss xs && is_list es ys)
-covers (Covered.Refused r, ss, es) n xs ys = false
+covers : Result ℕ Refusal × List ℕ × List ℕ → ℕ → List ℕ → List ℕ → Bool
+covers (Ok number, ss, es) n xs ys = eqb number n && (is_list ss xs && is_list es ys)
+covers (Err r, ss, es) n xs ys = false
 
 -- it is refused by this number, with this place, and leaves the output, which held 9 everywhere, as it was
-refuses_coverage : ℕ → ℕ → Covered × List ℕ × List ℕ → Bool
-refuses_coverage number place (Covered.Ranges n, ss, es) = false
-refuses_coverage number place (Covered.Refused r, ss, es) = eqb (number_of r) number && (eqb (place_of r) place && (is_list ss (times (length ss) 9) && is_list es (times (length es) 9)))
+refuses_coverage : ℕ → ℕ → Result ℕ Refusal × List ℕ × List ℕ → Bool
+refuses_coverage number place (Ok n, ss, es) = false
+refuses_coverage number place (Err r, ss, es) = eqb (number_of r) number && (eqb (place_of r) place && (is_list ss (times (length ss) 9) && is_list es (times (length es) 9)))
 
 -- a coverage that is given in starts and ends: accepted, or refused by 14 with this place
 given_ranges : List ℕ → List ℕ → Option Refusal
@@ -356,9 +350,9 @@ are_ones [] = true
 are_ones (v ∷ vs) = Ieee.eq v 1·0 && are_ones vs
 
 -- clipping is refused by this number, with this place, and leaves the output, which held 9 and 1.0 everywhere, as it was
-refuses_clip : ℕ → ℕ → Clipped × List ℕ × List Float → Bool
-refuses_clip number place (Clipped.Cells n, zs, vs) = false
-refuses_clip number place (Clipped.Refused r, zs, vs) = eqb (number_of r) number && (eqb (place_of r) place && (is_list zs (times (length zs) 9) && are_ones vs))
+refuses_clip : ℕ → ℕ → Result ℕ Refusal × List ℕ × List Float → Bool
+refuses_clip number place (Ok n, zs, vs) = false
+refuses_clip number place (Err r, zs, vs) = eqb (number_of r) number && (eqb (place_of r) place && (is_list zs (times (length zs) 9) && are_ones vs))
 
 -- ---- note 6 of 02: coverage and clipping, with a largest depth of 1 or 2 where the tree is walked, else of 29
 pub note6 : List Bool
@@ -414,14 +408,14 @@ note6 =
 
 -- ---- what a row of note 7 says
 -- the count merger is refused by this number, with this place
-refuses_quad : ℕ → ℕ → CountMerger → Bool
-refuses_quad number place (CountMerger.Answer m) = false
-refuses_quad number place (CountMerger.Refused r) = eqb (number_of r) number && eqb (place_of r) place
+refuses_quad : ℕ → ℕ → Result (Merge ℕ) Refusal → Bool
+refuses_quad number place (Ok m) = false
+refuses_quad number place (Err r) = eqb (number_of r) number && eqb (place_of r) place
 
 -- an add call is refused by this number, with this place, and leaves the buffers, which held 9 everywhere, as they were
-refuses_add : ℕ → ℕ → CountsAdded × List ℕ × List ℕ → Bool
-refuses_add number place (CountsAdded.Added entries total, zs, vs) = false
-refuses_add number place (CountsAdded.Refused r, zs, vs) = eqb (number_of r) number && (eqb (place_of r) place && (is_list zs (times (length zs) 9) && is_list vs (times (length vs) 9)))
+refuses_add : ℕ → ℕ → Result CountsAdded Refusal × List ℕ × List ℕ → Bool
+refuses_add number place (Ok a, zs, vs) = false
+refuses_add number place (Err r, zs, vs) = eqb (number_of r) number && (eqb (place_of r) place && (is_list zs (times (length zs) 9) && is_list vs (times (length vs) 9)))
 
 -- the zuniqs of (0,0), (1,0), (1,1) and (2,0)
 z00 : ℕ
@@ -439,7 +433,7 @@ z20 = 18014398509481984
 -- ---- note 7 of 02: protected parents; M = 0 unless given. The merger's parent is (1,0); maps have a largest depth of 2, in which the zuniqs of
 -- (1,0), (1,1), (0,0), (1,2) and (1,3) are 4, 12, 16, 20 and 28
 pub note7 : List Bool
-unfolding z00 z10 z11 z20 refuses_quad refuses_add kept_with merged_to is_list is_map from times 3·0 3·5 is_listed is_protected refusal_from protected_refusal quad_refusal n_hash zuniq hash_at is_zuniq_at cell_up_to decode joined listed whole tops defined_map batch some_entry fits part value_in overlay_in overlay kept combined extras split_count lies_in overlap accept_counts merged_count count_merger merge_counts merge_by_chi chi_of_counts add_counts add_call counts_refusal settings_refusal lengths_refusal Ieee.add Ieee.sub Ieee.mul Ieee.div Ieee.of_int Ieee.lt Ieee.eq is_nan
+unfolding z00 z10 z11 z20 refuses_quad refuses_add kept_with merged_to is_list is_map from times 3·0 3·5 is_listed is_protected refusal_from protected_refusal quad_refusal n_hash zuniq hash_at is_zuniq_at cell_up_to decode joined listed whole tops defined_map batch some_entry fits part value_in overlay_in overlay kept combined extras split_count lies_in overlap accept_counts count_merger merge_counts merge_by_chi chi_of_counts add_counts add_call counts_refusal settings_refusal lengths_refusal Ieee.add Ieee.sub Ieee.mul Ieee.div Ieee.of_int Ieee.lt Ieee.eq is_nan
 note7 =
     -- "A quad whose parent is listed is kept", with its chi; first, last and between others
     kept_with 3·0 (count_merger (z10 ∷ []) 0 3·5 1 0 1 2 4 4)
@@ -490,19 +484,19 @@ note7 =
 
 -- ---- what a row of note 8 says
 -- asking answers this number of overlay cells, this number of entries and this total
-asks : Asked → ℕ → ℕ → ℕ → Bool
-asks (Asked.Answer f) cells entries total = eqb f.cells cells && (eqb f.entries entries && eqb f.total total)
-asks (Asked.Refused r) cells entries total = false
+asks : Result Figures Refusal → ℕ → ℕ → ℕ → Bool
+asks (Ok f) cells entries total = eqb f.cells cells && (eqb f.entries entries && eqb f.total total)
+asks (Err r) cells entries total = false
 
 -- it is refused by this number, with this place
-refuses_ask : ℕ → ℕ → Asked → Bool
-refuses_ask number place (Asked.Answer f) = false
-refuses_ask number place (Asked.Refused r) = eqb (number_of r) number && eqb (place_of r) place
+refuses_ask : ℕ → ℕ → Result Figures Refusal → Bool
+refuses_ask number place (Ok f) = false
+refuses_ask number place (Err r) = eqb (number_of r) number && eqb (place_of r) place
 
 -- committing, or a pool, answers this number of entries and this total, and leaves these zuniqs and counts in the output
-pools : CountsAdded × List ℕ × List ℕ → ℕ → ℕ → List ℕ → List ℕ → Bool
-pools (CountsAdded.Added entries total, zs, vs) n sum xs ws = eqb entries n && (eqb total sum && (is_list zs xs && is_list vs ws))
-pools (CountsAdded.Refused r, zs, vs) n sum xs ws = false
+pools : Result CountsAdded Refusal × List ℕ × List ℕ → ℕ → ℕ → List ℕ → List ℕ → Bool
+pools (Ok a, zs, vs) n sum xs ws = eqb a.entries n && (eqb a.total sum && (is_list zs xs && is_list vs ws))
+pools (Err r, zs, vs) n sum xs ws = false
 
 figures : ℕ → ℕ → ℕ → Figures
 figures cells entries total = record { cells = cells; entries = entries; total = total }
@@ -527,7 +521,7 @@ z13 = 504403158265495552
 
 -- ---- note 8 of 02: a pool that is asked for before it is done; M = 0 and no protected parents unless given
 pub note8 : List Bool
-unfolding asks refuses_ask pools figures counted ten three z12 z13 z00 z10 z11 refuses_add is_list times 2·0 3·5 is_listed is_protected refusal_from protected_refusal n_hash zuniq hash_at is_zuniq_at cell_up_to decode overlap_of overlap_test is_yes overlaps fault_after fault_of fault_at at_or fault_from first_fault map_refusal laid filled joined listed whole tops defined_map some_entry fits part value_in overlay_in overlay kept combined extras split_count lies_in overlap entries_of accept_counts merged_count merge_counts merge_by_chi chi_of_counts sum_of Combining.settings_refusal pairs_refusal Combining.maps_refusal Combining.sums_refusal places_refusal Combining.pool_input_refusal Combining.pool_refusal Combining.pool_over pool_counts figures_of ask_counts figures_refusal commit_refusal commit_counts Ieee.add Ieee.sub Ieee.mul Ieee.div Ieee.of_int Ieee.lt Ieee.eq is_nan
+unfolding asks refuses_ask pools figures counted ten three z12 z13 z00 z10 z11 refuses_add is_list times 2·0 3·5 is_listed is_protected refusal_from protected_refusal n_hash zuniq hash_at is_zuniq_at cell_up_to decode overlap_of overlap_test is_yes overlaps fault_after fault_of fault_at at_or fault_from first_fault map_refusal laid filled joined listed whole tops defined_map some_entry fits part value_in overlay_in overlay kept combined extras split_count lies_in overlap entries_of accept_counts merge_counts merge_by_chi chi_of_counts sum_of Combining.settings_refusal pairs_refusal Combining.maps_refusal Combining.sums_refusal places_refusal Combining.pool_input_refusal Combining.pool_refusal Combining.pool_over pool_counts figures_of ask_counts figures_refusal commit_refusal commit_counts Ieee.add Ieee.sub Ieee.mul Ieee.div Ieee.of_int Ieee.lt Ieee.eq is_nan
 note8 =
     -- "Ask answers the number of overlay cells, of entries after merging, and the total": at T = 2 the four stay, at T = 3.5 they merge
     asks (ask_counts [] ten three 0 2·0) 4 4 13
@@ -645,7 +639,7 @@ split_into h v parts = is_list (counts_of (entry 0 h v ∷ []) (entry 1 (4 * h) 
     counts_of l r = values (defined_pool (accept_counts 29 [] 1 2·0) 1 l r)
 
 pub note10 : List Bool
-unfolding split_into is_list is_map 2·0 is_listed is_protected joined listed whole tops defined_map some_entry fits part value_in overlay_in overlay kept combined extras split_count lies_in overlap accept_counts merged_count merge_counts merge_by_chi chi_of_counts Ieee.add Ieee.sub Ieee.mul Ieee.div Ieee.of_int Ieee.lt
+unfolding split_into is_list is_map 2·0 is_listed is_protected joined listed whole tops defined_map some_entry fits part value_in overlay_in overlay kept combined extras split_count lies_in overlap accept_counts merge_counts merge_by_chi chi_of_counts Ieee.add Ieee.sub Ieee.mul Ieee.div Ieee.of_int Ieee.lt
 note10 =
     -- "for parent hash h the extra ones go to children h mod 4, (h + 1) mod 4 and onwards, (v mod 4) of them": none, one, two and three, under
     -- each h mod 4
@@ -682,13 +676,13 @@ note10 =
 
 -- ---- what a row of note 11 says
 -- the answers of add calls, one after the other: 0, the number of entries and the total, or 1, the number of the refusal and its place
-told : List CountsAdded → List ℕ
+told : List (Result CountsAdded Refusal) → List ℕ
 told [] = []
-told (CountsAdded.Added entries total ∷ l) = 0 ∷ entries ∷ total ∷ told l
-told (CountsAdded.Refused r ∷ l) = 1 ∷ number_of r ∷ place_of r ∷ told l
+told (Ok a ∷ l) = 0 ∷ a.entries ∷ a.total ∷ told l
+told (Err r ∷ l) = 1 ∷ number_of r ∷ place_of r ∷ told l
 
 -- blank sky in two add calls under this list, D = 1 and T = 0: (1,0) to (1,3), then (1,4), into four places that held 9; what they leave and answer
-blank_calls : List ℕ → Buffers ℕ × List CountsAdded
+blank_calls : List ℕ → Buffers ℕ × List (Result CountsAdded Refusal)
 blank_calls P =
     calls 29 P 1 0 0·0 (record { number = 0; zuniqs = times 4 9; values = times 4 9 })
     (record { hashes = from 4 0; values = times 4 0 } ∷ record { hashes = 4 ∷ []; values = 0 ∷ [] } ∷ [])
@@ -713,7 +707,7 @@ apart = counted 1 (z10 ∷ z11 ∷ z12 ∷ z13 ∷ []) (times 4 0)
 -- ---- note 11 of 02: protected beats blank; M = 0 and T = 0 unless given. The merger's parent is (1,0); maps and their zuniqs as for note 7,
 -- asks, commits and add calls in zuniqs of the largest depth 29
 pub note11 : List Bool
-unfolding told blank_calls calls step collapse_up_to collapse run cell_refusal cells_refusal sum_refusal total_refusal cell_end map_end space_refusal z14 sky corner deep apart z00 z10 z11 z12 z13 z20 asks pools figures counted refuses_add kept_with merged_to is_list is_map from times 3·5 −1·0 is_listed is_protected refusal_from protected_refusal quad_refusal n_hash zuniq hash_at is_zuniq_at cell_up_to decode overlap_of overlap_test is_yes overlaps fault_after fault_of fault_at at_or fault_from first_fault map_refusal laid filled read_onto held joined listed whole tops defined_map batch some_entry fits part value_in overlay_in overlay kept combined extras split_count lies_in overlap accept_counts merged_count count_merger merge_counts merge_by_chi merge_blank_first accept_blank_first chi_of_counts add_counts add_call counts_refusal settings_refusal lengths_refusal Ieee.add Ieee.sub Ieee.mul Ieee.div Ieee.of_int Ieee.lt Ieee.eq is_nan entries_of sum_of Combining.settings_refusal pairs_refusal Combining.maps_refusal Combining.sums_refusal places_refusal Combining.pool_input_refusal Combining.pool_refusal Combining.pool_over pool_counts figures_of ask_counts figures_refusal commit_refusal commit_counts
+unfolding told blank_calls calls step collapse_up_to collapse run cell_refusal cells_refusal sum_refusal total_refusal cell_end map_end space_refusal z14 sky corner deep apart z00 z10 z11 z12 z13 z20 asks pools figures counted refuses_add kept_with merged_to is_list is_map from times 3·5 −1·0 is_listed is_protected refusal_from protected_refusal quad_refusal n_hash zuniq hash_at is_zuniq_at cell_up_to decode overlap_of overlap_test is_yes overlaps fault_after fault_of fault_at at_or fault_from first_fault map_refusal laid filled read_onto held joined listed whole tops defined_map batch some_entry fits part value_in overlay_in overlay kept combined extras split_count lies_in overlap accept_counts count_merger merge_counts merge_by_chi merge_blank_first accept_blank_first chi_of_counts add_counts add_call counts_refusal settings_refusal lengths_refusal Ieee.add Ieee.sub Ieee.mul Ieee.div Ieee.of_int Ieee.lt Ieee.eq is_nan entries_of sum_of Combining.settings_refusal pairs_refusal Combining.maps_refusal Combining.sums_refusal places_refusal Combining.pool_input_refusal Combining.pool_refusal Combining.pool_over pool_counts figures_of ask_counts figures_refusal commit_refusal commit_counts
 note11 =
     -- "from parent depth M on, four zero counts with a listed parent were merged and now stay", with their chi, 0: at any T, and at M
     kept_with 0·0 (count_merger (z10 ∷ []) 0 0·0 1 0 0 0 0 0)

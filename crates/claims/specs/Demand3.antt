@@ -3,7 +3,7 @@
 -- Said over the definitions that the contracts of the calls cite: `add_counts` is what `add_counts` does, `pool_counts` what `pool` does,
 -- `ask_counts` and `commit_counts` what `ask` and `commit` do.
 -- K is the largest depth of the zuniq type: 29 for the calls of `build_counts`, 13 for those of `narrow_counts` (note 2 of 02).
-use Rattle.std.specs.Prelude.{◌≡◌, List, [], ◌∷◌, map, reverse, ◌↔◌, ℕ, ◌+◌, max, Float, length, take}
+use Rattle.std.specs.Prelude.{Result, Ok, Err, ◌≡◌, List, [], ◌∷◌, map, reverse, ◌↔◌, ℕ, ◌+◌, max, Float, length, take}
 use Rattle.std.proofs.Math.Option.{Option, none, some}
 use Rattle.refusal.specs.declared.Refusal.{Refusal}
 use Rattle.merger.specs.Merge.{accept_counts}
@@ -14,28 +14,27 @@ use Rattle.build.specs.Buffers.{zuniq_of, zuniq_buffer, value_buffer}
 use Rattle.build.specs.Promises.{Any, Has, Covers, Ascends, total_under}
 use Rattle.build.specs.Calls.{Buffers, Batch, joined_cells, join_calls, left}
 use Rattle.build.specs.Counts.{total_of, counts_added, count_calls, add_counts}
-use Rattle.build.specs.declared.counts.CountsAdded.{CountsAdded}
+use Rattle.build.specs.declared.counts.Added.{Added as CountsAdded}
 use Rattle.combine.specs.Overlay.{overlay}
 use Rattle.combine.specs.Rules.{split_count, defined_pool}
 use Rattle.combine.specs.Pool.{Given, maps_refusal, pool_refusal, pool_counts}
 use Rattle.combine.specs.Ask.{ask_refusal, ask_counts, commit_refusal, commit_counts, committed}
-use Rattle.combine.specs.declared.counts.Asked.{Asked}
 use Rattle.combine.specs.declared.counts.Figures.{Figures}
 
 -- the number of entries that the last accepted call answered, and "the total last reported (0 before any)": with m and n of those before
-unfoldable pub last_report : ℕ → ℕ → List CountsAdded → ℕ × ℕ
+unfoldable pub last_report : ℕ → ℕ → List (Result CountsAdded Refusal) → ℕ × ℕ
 last_report m n [] = (m, n)
-last_report m n (CountsAdded.Refused r ∷ l) = last_report m n l
-last_report m n (CountsAdded.Added entries total ∷ l) = last_report entries total l
+last_report m n (Err r ∷ l) = last_report m n l
+last_report m n (Ok a ∷ l) = last_report a.entries a.total l
 
 -- "m as the last accepted call answered it": the held number after a call that was handed m
-abbrev pub held_after : ℕ → CountsAdded → ℕ
-held_after m (CountsAdded.Refused r) = m
-held_after m (CountsAdded.Added entries total) = entries
+abbrev pub held_after : ℕ → Result CountsAdded Refusal → ℕ
+held_after m (Err r) = m
+held_after m (Ok a) = a.entries
 
 -- the calls, one after the other: "Each later one gets the buffers as the last call left them and m as the last accepted call
 -- answered it"; what they leave, and every answer
-unfoldable pub calls : ℕ → List ℕ → ℕ → ℕ → Float → Buffers ℕ → List (Batch ℕ) → Buffers ℕ × List CountsAdded
+unfoldable pub calls : ℕ → List ℕ → ℕ → ℕ → Float → Buffers ℕ → List (Batch ℕ) → Buffers ℕ × List (Result CountsAdded Refusal)
 calls K P D M T b [] = (b, [])
 calls K P D M T b (c ∷ cs) =
     let r = add_counts K P D M T b.number b.zuniqs b.values c.hashes c.values in
@@ -59,11 +58,11 @@ first a = record { number = 0; zuniqs = a.zuniqs; values = a.counts }
 
 module _ (K : ℕ) (a : AddCalls) where
   -- what the calls leave in the buffers, with m, and what they answer
-  abbrev pub done : Buffers ℕ × List CountsAdded
+  abbrev pub done : Buffers ℕ × List (Result CountsAdded Refusal)
   done = calls K a.parents a.D a.M a.T (first a) a.batches
 
   -- "The joined batches [..] are made from the calls' arguments alone", and with them what each call should answer
-  abbrev pub due : Option (List (Entry ℕ)) × List CountsAdded
+  abbrev pub due : Option (List (Entry ℕ)) × List (Result CountsAdded Refusal)
   due = let t = join_calls (count_calls K a.parents a.D a.M a.T) (length a.zuniqs) (length a.counts) none a.batches in (t.0, map counts_added t.1)
 
   abbrev pub joined_list : List (Entry ℕ)
@@ -107,9 +106,9 @@ pub record PoolClaim (P : List ℕ) (a b : AddCalls) (M : ℕ) (T : Float) (zs v
   pub maps : maps_refusal (given a) (given b) ≡ none
   -- the answer, if it is not refused, is the defined pool, its total the sum of the two totals, with 0 in every place after it
   pub pooled : pool_refusal P (given a) (given b) M T (length zs) (length vs) ≡ none → let p = pool_of P a b M T in
-      pool_counts P (given a) (given b) M T zs vs ≡ (CountsAdded.Added (length p) (total_of (map_of 29 a) + total_of (map_of 29 b)), zuniq_buffer 29 (length zs) p, value_buffer 0 (length vs) p)
+      pool_counts P (given a) (given b) M T zs vs ≡ (Ok (record { entries = length p; total = total_of (map_of 29 a) + total_of (map_of 29 b) }), zuniq_buffer 29 (length zs) p, value_buffer 0 (length vs) p)
   -- a refusal leaves the output
-  pub refused : (x : Refusal) → pool_refusal P (given a) (given b) M T (length zs) (length vs) ≡ some x → pool_counts P (given a) (given b) M T zs vs ≡ (CountsAdded.Refused x, zs, vs)
+  pub refused : (x : Refusal) → pool_refusal P (given a) (given b) M T (length zs) (length vs) ≡ some x → pool_counts P (given a) (given b) M T zs vs ≡ (Err x, zs, vs)
   -- "Swapped, with all else handed in alike, they give the same answer and output, a refusal having the same number and place."
   pub swapped : pool_counts P (given b) (given a) M T zs vs ≡ pool_counts P (given a) (given b) M T zs vs
 
@@ -125,15 +124,15 @@ figures_due P a b M T = record {
 -- As of a pool: any M and T, one more list P, and buffers that held zs and vs.
 pub record CommitClaim (P : List ℕ) (a b : AddCalls) (M : ℕ) (T : Float) (zs vs : List ℕ) : Type 0 where
   -- an ask, if it is not refused, answers those figures
-  pub asked : ask_refusal P (given a) (given b) M T ≡ none → ask_counts P (given a) (given b) M T ≡ Asked.Answer (figures_due P a b M T)
+  pub asked : ask_refusal P (given a) (given b) M T ≡ none → ask_counts P (given a) (given b) M T ≡ Ok (figures_due P a b M T)
   -- "The old single call [..], where its output buffers are of equal length, equals an ask followed by its commit, in its refusals too."
   pub as_one_call : length zs ≡ length vs → pool_counts P (given a) (given b) M T zs vs ≡ committed P (given a) (given b) M T zs vs (ask_counts P (given a) (given b) M T)
   -- a commit that is not refused was given those figures, and is the defined pool
   pub figures_are : (f : Figures) → commit_refusal P (given a) (given b) M T f (length zs) (length vs) ≡ none → f ≡ figures_due P a b M T
   pub pooled : (f : Figures) → commit_refusal P (given a) (given b) M T f (length zs) (length vs) ≡ none → let p = pool_of P a b M T in
-      commit_counts P (given a) (given b) M T f zs vs ≡ (CountsAdded.Added (length p) (total_of (map_of 29 a) + total_of (map_of 29 b)), zuniq_buffer 29 (length zs) p, value_buffer 0 (length vs) p)
+      commit_counts P (given a) (given b) M T f zs vs ≡ (Ok (record { entries = length p; total = total_of (map_of 29 a) + total_of (map_of 29 b) }), zuniq_buffer 29 (length zs) p, value_buffer 0 (length vs) p)
   -- a refusal leaves the output
-  pub refused : (f : Figures) (x : Refusal) → commit_refusal P (given a) (given b) M T f (length zs) (length vs) ≡ some x → commit_counts P (given a) (given b) M T f zs vs ≡ (CountsAdded.Refused x, zs, vs)
+  pub refused : (f : Figures) (x : Refusal) → commit_refusal P (given a) (given b) M T f (length zs) (length vs) ≡ some x → commit_counts P (given a) (given b) M T f zs vs ≡ (Err x, zs, vs)
   -- swapped they are the same
   pub asked_swapped : ask_counts P (given b) (given a) M T ≡ ask_counts P (given a) (given b) M T
   pub swapped : (f : Figures) → commit_counts P (given b) (given a) M T f zs vs ≡ commit_counts P (given a) (given b) M T f zs vs

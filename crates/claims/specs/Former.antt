@@ -1,17 +1,17 @@
 -- What a request of document 02 changed, as it was before it: definitions that the laws of proofs/Former, and those of proofs/BlankFirst,
 -- compare with.
-use Rattle.std.specs.Prelude.{◌≡◌, true, ◌&&◌, ◌||◌, not, cond, List, map, reverse, ℕ, ◌+◌, ◌/◌, ◌%◌, ◌≤◌, eqb, leb, ltb, Float, length}
+use Rattle.std.specs.Prelude.{Result, ◌≡◌, true, ◌&&◌, ◌||◌, not, cond, List, map, reverse, ℕ, ◌+◌, ◌/◌, ◌%◌, ◌≤◌, eqb, leb, ltb, Float, length}
 use Rattle.std.proofs.Math.Option.{Option}
 use Rattle.refusal.specs.declared.Refusal.{Refusal}
 use Rattle.refusal.specs.Checks.{or_else, refused_if}
 use Rattle.protection.specs.Protected.{is_protected}
-use Rattle.merger.specs.Merge.{chi_of_counts, merge_by_chi, blank, merged_count, accept_counts}
-use Rattle.merger.specs.declared.CountMerge.{CountMerge}
+use Rattle.merger.specs.Merge.{chi_of_counts, merge_by_chi, blank, merged, accept_counts}
+use Rattle.merger.specs.declared.Merge.{Merge}
 use Rattle.build.specs.Map.{Entry, Merger}
 use Rattle.build.specs.Promises.{WholeChildren}
 use Rattle.build.specs.Calls.{Buffers, Calls, answered, add_calls}
 use Rattle.build.specs.Counts.{total_of, count_calls, counts_added}
-use Rattle.build.specs.declared.counts.CountsAdded.{CountsAdded}
+use Rattle.build.specs.declared.counts.Added.{Added as CountsAdded}
 use Rattle.combine.specs.Overlay.{Split, overlay}
 use Rattle.combine.specs.Rules.{kept, combined, split_count, pool_rule, defined_pool}
 use Rattle.combine.specs.Pool.{Given, entries, result_depth, places_refusal, pool_kept, pool_input_refusal}
@@ -53,7 +53,7 @@ unfoldable pub former_split_count : Split ℕ
 former_split_count d h v i = v / 4 + cond (ltb i (v % 4)) 1 0
 
 -- the answer and output of a pool with another merger or another way to split, by its refusal
-unfoldable pub pool_over_with : Merger ℕ → Split ℕ → List ℕ → Option Refusal → Given ℕ → Given ℕ → ℕ → Float → List ℕ → List ℕ → CountsAdded × List ℕ × List ℕ
+unfoldable pub pool_over_with : Merger ℕ → Split ℕ → List ℕ → Option Refusal → Given ℕ → Given ℕ → ℕ → Float → List ℕ → List ℕ → Result CountsAdded Refusal × List ℕ × List ℕ
 pool_over_with accept split P refusal l r M T zs vs =
     let K = result_depth l r in
     let pool = reverse (combined accept split pool_rule K (entries l) (entries r)) in
@@ -66,26 +66,26 @@ pool_refusal_with split P l r M T places values =
     or_else (pool_input_refusal P l r M T places values) (places_refusal places (length (kept pool_rule (overlay split (result_depth l r) (entries l) (entries r)))))
 
 -- and the call, are the former ones
-unfoldable pub pool_counts_with : Split ℕ → List ℕ → Given ℕ → Given ℕ → ℕ → Float → List ℕ → List ℕ → CountsAdded × List ℕ × List ℕ
+unfoldable pub pool_counts_with : Split ℕ → List ℕ → Given ℕ → Given ℕ → ℕ → Float → List ℕ → List ℕ → Result CountsAdded Refusal × List ℕ × List ℕ
 pool_counts_with split P l r M T zs vs = pool_over_with (accept_counts 29 P M T) split P (pool_refusal_with split P l r M T (length zs) (length vs)) l r M T zs vs
 
 -- ---- before note 11
 -- "A quad whose parent is listed is kept, though blank quads of Note 4 merge first."
-unfoldable pub merge_blank_first : (K : ℕ) (P : List ℕ) (M : ℕ) (T : Float) (p h n0 n1 n2 n3 : ℕ) → CountMerge
+unfoldable pub merge_blank_first : (K : ℕ) (P : List ℕ) (M : ℕ) (T : Float) (p h n0 n1 n2 n3 : ℕ) → Merge ℕ
 merge_blank_first K P M T p h n0 n1 n2 n3 =
-    cond (leb M p && blank n0 n1 n2 n3) (CountMerge.Merged 0)
-    (cond (is_protected K P p h) (CountMerge.Kept (chi_of_counts n0 n1 n2 n3))
+    cond (leb M p && blank n0 n1 n2 n3) (Merge.Merged 0)
+    (cond (is_protected K P p h) (Merge.Kept (chi_of_counts n0 n1 n2 n3))
     (merge_by_chi M T p h n0 n1 n2 n3))
 
 unfoldable pub accept_blank_first : (K : ℕ) (P : List ℕ) (M : ℕ) (T : Float) → Merger ℕ
-accept_blank_first K P M T p h n0 n1 n2 n3 = merged_count (merge_blank_first K P M T p h n0 n1 n2 n3)
+accept_blank_first K P M T p h n0 n1 n2 n3 = merged (merge_blank_first K P M T p h n0 n1 n2 n3)
 
 -- a "list that protects no blank quad's parent": under no listed parent of depth M or more stand four whole children of count 0
 abbrev pub NoBlankProtected : (K : ℕ) (P : List ℕ) (M : ℕ) → Merger ℕ → (D : ℕ) → List (Entry ℕ) → Type 0
 NoBlankProtected K P M accept D l = (d h : ℕ) → M ≤ d → is_protected K P d h ≡ true → WholeChildren accept D l d h 0 0 0 0 → ⊥
 
 -- a list of add calls with the former merger: what they leave in the buffers, with m, and what they answer
-abbrev pub done_blank_first : ℕ → AddCalls → Buffers ℕ × List CountsAdded
+abbrev pub done_blank_first : ℕ → AddCalls → Buffers ℕ × List (Result CountsAdded Refusal)
 done_blank_first K a =
     let t = add_calls (with_merger (accept_blank_first K a.parents a.M a.T) (count_calls K a.parents a.D a.M a.T)) (first a) a.batches in
     (t.0, map counts_added t.1)

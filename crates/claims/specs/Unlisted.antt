@@ -1,51 +1,47 @@
 -- The calls as they were before note 7 of document 02, when none took a list of protected parents: what the laws of proofs/Unlisted compare
 -- with. What a later note moved is here as it is now: counts are split by the parent's hash (note 10).
-use Rattle.std.specs.Prelude.{◌&&◌, cond, List, reverse, ℕ, ◌+◌, leb, ltb, Float, length}
+use Rattle.std.specs.Prelude.{Result, Ok, Err, ◌&&◌, cond, List, reverse, ℕ, ◌+◌, leb, ltb, Float, length}
 use Rattle.std.proofs.Math.Option.{Option}
 use Rattle.std.specs.Float.Ieee.{is_nan}
-use Rattle.refusal.specs.Checks.{or_else}
+use Rattle.refusal.specs.Checks.{or_else, ok_unless}
 use Rattle.refusal.specs.declared.Refusal.{Refusal}
 use Rattle.merger.specs.Floats.{0·0, invalid_density}
-use Rattle.merger.specs.Merge.{blank, merge_by_chi, merged_count, unit_density, merge_densities_by_chi, merged_density, first_invalid}
-use Rattle.merger.specs.declared.CountMerge.{CountMerge}
-use Rattle.merger.specs.declared.CountMerger.{CountMerger}
-use Rattle.merger.specs.declared.DensityMerger.{DensityMerger}
+use Rattle.merger.specs.Merge.{blank, merge_by_chi, merged, unit_density, merge_densities_by_chi, first_invalid, invalid_child}
+use Rattle.merger.specs.declared.Merge.{Merge}
 use Rattle.mom.specs.Map.{first_fault}
 use Rattle.build.specs.Calls.{Calls, add_call, answered}
 use Rattle.build.specs.Add.{settings_refusal, lengths_refusal, map_refusal, map_end, cells_refusal, sum_of, total_refusal, space_refusal}
 use Rattle.build.specs.Counts.{total_of, never, Report, counts_added}
 use Rattle.build.specs.Densities.{density_refusal, densities_added}
-use Rattle.build.specs.declared.counts.CountsAdded.{CountsAdded}
-use Rattle.build.specs.declared.densities.DensitiesAdded.{DensitiesAdded}
+use Rattle.build.specs.declared.counts.Added.{Added as CountsAdded}
 use Rattle.combine.specs.Rules.{defined_pool, defined_product}
 use Rattle.combine.specs.Pool as Combining
 use Rattle.combine.specs.Pool.{Given, entries, result_depth, pool_kept, product_kept}
 
 -- ---- the mergers, which took no hash of the parent
-unfoldable pub former_merge_counts : (M : ℕ) (T : Float) (p h n0 n1 n2 n3 : ℕ) → CountMerge
-former_merge_counts M T p h n0 n1 n2 n3 = cond (leb M p && blank n0 n1 n2 n3) (CountMerge.Merged 0) (merge_by_chi M T p h n0 n1 n2 n3)
+unfoldable pub former_merge_counts : (M : ℕ) (T : Float) (p h n0 n1 n2 n3 : ℕ) → Merge ℕ
+former_merge_counts M T p h n0 n1 n2 n3 = cond (leb M p && blank n0 n1 n2 n3) (Merge.Merged 0) (merge_by_chi M T p h n0 n1 n2 n3)
 
 unfoldable pub former_accept_counts : (M : ℕ) (T : Float) (p h n0 n1 n2 n3 : ℕ) → Option ℕ
-former_accept_counts M T p h n0 n1 n2 n3 = merged_count (former_merge_counts M T p h n0 n1 n2 n3)
+former_accept_counts M T p h n0 n1 n2 n3 = merged (former_merge_counts M T p h n0 n1 n2 n3)
 
 unfoldable pub former_accept_densities : (M : ℕ) (T : Float) (p h : ℕ) (m0 m1 m2 m3 : Float) → Option Float
-former_accept_densities M T p h m0 m1 m2 m3 = merged_density (merge_densities_by_chi (unit_density p) M T p h m0 m1 m2 m3)
+former_accept_densities M T p h m0 m1 m2 m3 = merged (merge_densities_by_chi (unit_density p) M T p h m0 m1 m2 m3)
 
-unfoldable pub former_count_merger : (M : ℕ) (T : Float) (p n0 n1 n2 n3 : ℕ) → CountMerger
+unfoldable pub former_count_merger : (M : ℕ) (T : Float) (p n0 n1 n2 n3 : ℕ) → Result (Merge ℕ) Refusal
 former_count_merger M T p n0 n1 n2 n3 =
-    cond (ltb 28 p) (CountMerger.Refused Refusal.DepthOutOfRange)
-    (cond (ltb 29 M) (CountMerger.Refused Refusal.DepthThresholdOutOfRange)
-    (cond (is_nan T) (CountMerger.Refused Refusal.Chi2ThresholdIsNan)
-    (cond (ltb 4294967295 (n0 + n1 + n2 + n3)) (CountMerger.Refused (Refusal.CountOverflow 0))
-    (CountMerger.Answer (former_merge_counts M T p 0 n0 n1 n2 n3)))))
+    cond (ltb 28 p) (Err Refusal.DepthOutOfRange)
+    (cond (ltb 29 M) (Err Refusal.DepthThresholdOutOfRange)
+    (cond (is_nan T) (Err Refusal.Chi2ThresholdIsNan)
+    (cond (ltb 4294967295 (n0 + n1 + n2 + n3)) (Err (Refusal.CountOverflow 0))
+    (Ok (former_merge_counts M T p 0 n0 n1 n2 n3)))))
 
-unfoldable pub former_density_merger : (M : ℕ) (T : Float) (p : ℕ) (m0 m1 m2 m3 : Float) → DensityMerger
+unfoldable pub former_density_merger : (M : ℕ) (T : Float) (p : ℕ) (m0 m1 m2 m3 : Float) → Result (Merge Float) Refusal
 former_density_merger M T p m0 m1 m2 m3 =
-    cond (ltb 28 p) (DensityMerger.Refused Refusal.DepthOutOfRange)
-    (cond (ltb 29 M) (DensityMerger.Refused Refusal.DepthThresholdOutOfRange)
-    (cond (is_nan T) (DensityMerger.Refused Refusal.Chi2ThresholdIsNan)
-    (cond (ltb (first_invalid m0 m1 m2 m3) 4) (DensityMerger.Refused (Refusal.InvalidDensity (first_invalid m0 m1 m2 m3)))
-    (DensityMerger.Answer (merge_densities_by_chi (unit_density p) M T p 0 m0 m1 m2 m3)))))
+    cond (ltb 28 p) (Err Refusal.DepthOutOfRange)
+    (cond (ltb 29 M) (Err Refusal.DepthThresholdOutOfRange)
+    (cond (is_nan T) (Err Refusal.Chi2ThresholdIsNan)
+    (ok_unless (invalid_child (first_invalid m0 m1 m2 m3)) (merge_densities_by_chi (unit_density p) M T p 0 m0 m1 m2 m3))))
 
 -- ---- adding counts, wide and narrow
 unfoldable pub former_counts_refusal : ℕ → ℕ → ℕ → Float → ℕ → ℕ → ℕ → List ℕ → List ℕ → List ℕ → List ℕ → Option Refusal
@@ -67,7 +63,7 @@ former_count_calls K D M T = record {
   report = λ s. record { entries = length s; sum = total_of s };
 }
 
-unfoldable pub former_add_counts : ℕ → ℕ → ℕ → Float → ℕ → List ℕ → List ℕ → List ℕ → List ℕ → CountsAdded × List ℕ × List ℕ
+unfoldable pub former_add_counts : ℕ → ℕ → ℕ → Float → ℕ → List ℕ → List ℕ → List ℕ → List ℕ → Result CountsAdded Refusal × List ℕ × List ℕ
 former_add_counts K D M T m zs vs hs ns =
     let t = add_call (former_count_calls K D M T) (record { number = m; zuniqs = zs; values = vs }) (record { hashes = hs; values = ns }) in
     (counts_added t.1, t.0.zuniqs, t.0.values)
@@ -92,7 +88,7 @@ former_density_calls D M T = record {
   report = length;
 }
 
-unfoldable pub former_add_densities : ℕ → ℕ → Float → ℕ → List ℕ → List Float → List ℕ → List Float → DensitiesAdded × List ℕ × List Float
+unfoldable pub former_add_densities : ℕ → ℕ → Float → ℕ → List ℕ → List Float → List ℕ → List Float → Result ℕ Refusal × List ℕ × List Float
 former_add_densities D M T m zs vs hs xs =
     let t = add_call (former_density_calls D M T) (record { number = m; zuniqs = zs; values = vs }) (record { hashes = hs; values = xs }) in
     (densities_added t.1, t.0.zuniqs, t.0.values)
@@ -106,7 +102,7 @@ former_pool_refusal l r M T places values =
     (Combining.sums_refusal (sum_of l.values) (sum_of r.values)))))
     (Combining.places_refusal places (length (pool_kept l r)))
 
-unfoldable pub former_pool_counts : Given ℕ → Given ℕ → ℕ → Float → List ℕ → List ℕ → CountsAdded × List ℕ × List ℕ
+unfoldable pub former_pool_counts : Given ℕ → Given ℕ → ℕ → Float → List ℕ → List ℕ → Result CountsAdded Refusal × List ℕ × List ℕ
 former_pool_counts l r M T zs vs =
     let K = result_depth l r in
     let pool = reverse (defined_pool (former_accept_counts M T) K (entries l) (entries r)) in
@@ -124,7 +120,7 @@ former_product_refusal l r M T k places values =
     (or_else (Combining.finite_refusal (product_kept k l r))
     (Combining.places_refusal places (length (product_kept k l r))))
 
-unfoldable pub former_product_densities : Given Float → Given Float → ℕ → Float → Float → List ℕ → List Float → DensitiesAdded × List ℕ × List Float
+unfoldable pub former_product_densities : Given Float → Given Float → ℕ → Float → Float → List ℕ → List Float → Result ℕ Refusal × List ℕ × List Float
 former_product_densities l r M T k zs vs =
     let K = result_depth l r in
     let product = reverse (defined_product (former_accept_densities M T) k K (entries l) (entries r)) in

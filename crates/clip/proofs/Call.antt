@@ -1,6 +1,6 @@
 -- The call: its checks are the rows of the table, and what it answers and leaves in the buffers is what the definition says. Assumes
 -- nothing.
-use mathlib.Core.Path.{◌≡◌, refl, ap, ap₂, sym, ◌∙◌}
+use mathlib.Core.Path.{◌≡◌, refl}
 use mathlib.Core.Bool.{◌||◌, not}
 use mathlib.Core.List.{List, ◌++◌}
 use mathlib.Core.Option.{Option, none, some}
@@ -14,12 +14,11 @@ use Rattle.refusal.specs.declared.Refusal.{Refusal}
 use Rattle.zuniq.specs.Cells.{n_hash}
 use Rattle.merger.specs.Floats.{0·0}
 use Rattle.mom.specs.Map.{ValidMap, first_fault}
-use Rattle.refusal.specs.Checks.{or_else, refused_if, check_of}
-use Rattle.refusal.proofs.Checks.{check_passed, check_refused, passes, refuses, or_else_none, refused_if-none}
+use Rattle.refusal.specs.Checks.{or_else, refused_if}
+use Rattle.refusal.proofs.Checks.{or_else_none, refused_if-none}
 use Rattle.build.specs.Buffers.{zuniq_of, value_of}
 use Rattle.build.specs.Add.{map_refusal}
 use Rattle.build.specs.Densities.{density_refusal}
-use Rattle.refusal.specs.declared.Check.{Check}
 use Rattle.build.proofs.Checking.{or_false_both, map_passes}
 use Rattle.combine.specs.Slices.{entries_of, Holds}
 use Rattle.combine.specs.Pool.{Given, pairs_refusal, places_refusal}
@@ -27,19 +26,14 @@ use Rattle.combine.proofs.Given.{entries_rise}
 use Rattle.coverage.specs.Ranges.{ranges_of, padded, ranges_refusal}
 use Rattle.coverage.specs.Promises.{Parted}
 use Rattle.coverage.proofs.Given.{accepted_parted}
-use Rattle.clip.specs.declared.Clipped.{Clipped}
-use Rattle.clip.specs.declared.Pass.{Pass}
-use Rattle.clip.specs.Call.{clipped_of, clip_input_refusal, clip_refusal, clip_call, first_of}
-use Rattle.clip.specs.Passes.{Outcome}
+use Rattle.std.specs.Prelude.{Ok, Err}
+use Rattle.clip.specs.Passes.{Aim}
+use Rattle.clip.specs.Call.{clipped_of, clip_input_refusal, clip_refusal, clip_call}
+use Rattle.clip.specs.Passes.{Taken}
 use Rattle.clip.proofs.Tree.{clip_length}
 use Rattle.clip.proofs.Levels.{sky_is}
 
--- Of two checks the first that refuses tells the first refusal.
-first_of_lem : (o p : Option Refusal) → first_of (check_of o) (check_of p) ≡ check_of (or_else o p)
-first_of_lem none p = refl
-first_of_lem (some r) p = refl
-
-pairs-pass : (lz lv rz rv places values : ℕ) → pairs_refusal lz lv rz rv places values ≡ none → (lz ≡ lv) × (rz ≡ rv) × (places ≡ values)
+pub pairs-pass : (lz lv rz rv places values : ℕ) → pairs_refusal lz lv rz rv places values ≡ none → (lz ≡ lv) × (rz ≡ rv) × (places ≡ values)
 unfolding pairs_refusal
 pairs-pass lz lv rz rv places values e =
     let b = or_false_both (not (eqb lz lv)) (not (eqb rz rv) || not (eqb places values)) (refused_if-none _ Refusal.LengthMismatch e) in
@@ -72,32 +66,6 @@ module _ (m : Given Float) (ss es : List ℕ) (places values : ℕ) where
   abbrev rows14 : Option Refusal
   rows14 = ranges_refusal (n_hash 29) 0 0 (ranges_of ss es)
 
-  pub row1 : 29 < m.depth → Check.Refused Refusal.DepthOutOfRange ≡ check_of (clip_input_refusal m ss es places values)
-  unfolding clip_input_refusal
-  row1 l = rw (lt-ltb 29 m.depth l) refl
-
-  module _ (deep : m.depth ≤ 29) where
-    after1 : clip_input_refusal m ss es places values ≡ or_else rows4 (or_else rows5 (or_else rows6 rows14))
-    unfolding clip_input_refusal
-    after1 = rw (le-ltb 29 m.depth deep) refl
-
-    pub row4 : {x : Check} (r : Refusal) → x ≡ check_of rows4 → x ≡ Check.Refused r → Check.Refused r ≡ check_of (clip_input_refusal m ss es places values)
-    row4 r c e = sym (ap check_of (after1 ∙ refuses rows4 (or_else rows5 (or_else rows6 rows14)) c e))
-
-    module _ {x : Check} (c4 : x ≡ check_of rows4) (p4 : x ≡ Check.Passed) where
-      after4 : clip_input_refusal m ss es places values ≡ or_else rows5 (or_else rows6 rows14)
-      after4 = after1 ∙ passes rows4 (or_else rows5 (or_else rows6 rows14)) c4 p4
-
-      pub pairs : (length m.zuniqs ≡ length m.values) × (length ss ≡ length es) × (places ≡ values)
-      pairs = pairs-pass (length m.zuniqs) (length m.values) (length ss) (length es) places values (check_passed rows4 (sym p4 ∙ c4))
-
-      pub row5 : {y : Check} (r : Refusal) → y ≡ check_of rows5 → y ≡ Check.Refused r → Check.Refused r ≡ check_of (clip_input_refusal m ss es places values)
-      row5 r c e = sym (ap check_of (after4 ∙ refuses rows5 (or_else rows6 rows14) c e))
-
-      module _ {y : Check} (c5 : y ≡ check_of rows5) (p5 : y ≡ Check.Passed) where
-        pub rows6and14 : {z d r : Check} → d ≡ check_of rows6 → r ≡ check_of rows14 → z ≡ first_of d r → z ≡ check_of (clip_input_refusal m ss es places values)
-        rows6and14 c6 c14 l = l ∙ ap₂ first_of c6 c14 ∙ first_of_lem rows6 rows14 ∙ sym (ap check_of (after4 ∙ passes rows5 (or_else rows6 rows14) c5 p5))
-
   pub passes_all : clip_input_refusal m ss es places values ≡ none → Passed m ss es places values
   unfolding clip_input_refusal
   passes_all o =
@@ -116,23 +84,20 @@ module _ (m : Given Float) (ss es : List ℕ) (places values : ℕ) where
         paired = p.2;
       }
 
-  pub passed : {x : Check} → x ≡ check_of (clip_input_refusal m ss es places values) → x ≡ Check.Passed → Passed m ss es places values
-  passed c e = passes_all (check_passed (clip_input_refusal m ss es places values) (sym e ∙ c))
-
 module _ (m : Given Float) (ss es : List ℕ) (zs : List ℕ) (vs : List Float) where
-  pub call_refused : {x : Check} (r : Refusal) → x ≡ check_of (clip_input_refusal m ss es (length zs) (length vs)) → x ≡ Check.Refused r → (Clipped.Refused r, zs, vs) ≡ clip_call m ss es zs vs
+  pub call_refused : (r : Refusal) → clip_input_refusal m ss es (length zs) (length vs) ≡ some r → (Err r, zs, vs) ≡ clip_call m ss es zs vs
   unfolding clip_call clip_refusal
-  call_refused r c e = rw (check_refused (clip_input_refusal m ss es (length zs) (length vs)) r (sym e ∙ c)) refl
+  call_refused r e = rw e refl
 
   module _ (p : Passed m ss es (length zs) (length vs)) where
-    pub call_no_space : (zs' : List ℕ) (vs' : List Float) → zs' ≡ zs → vs' ≡ vs → length zs < length (clipped_of m.zuniqs m.values ss es) → (Clipped.Refused Refusal.NoSpace, zs', vs') ≡ clip_call m ss es zs vs
+    pub call_no_space : length zs < length (clipped_of m.zuniqs m.values ss es) → (Err Refusal.NoSpace, zs, vs) ≡ clip_call m ss es zs vs
     unfolding clip_call clip_refusal places_refusal
-    call_no_space zs' vs' ez ev l = rw (ez, ev, p.refusal, lt-ltb (length zs) (length (clipped_of m.zuniqs m.values ss es)) l) refl
+    call_no_space l = rw (p.refusal, lt-ltb (length zs) (length (clipped_of m.zuniqs m.values ss es)) l) refl
 
     pub call_clipped : (n : ℕ) (zs₁ : List ℕ) (vs₁ : List Float) (zs₂ : List ℕ) (vs₂ : List Float) → n ≡ length (clipped_of m.zuniqs m.values ss es) → n ≤ length zs
-        → Outcome Pass.Write 0 (clipped_of m.zuniqs m.values ss es) zs vs zs₁ vs₁ → length zs₁ ≡ length zs → length vs₁ ≡ length vs
+        → Taken Aim.Write 0 (clipped_of m.zuniqs m.values ss es) zs vs zs₁ vs₁ → length zs₁ ≡ length zs → length vs₁ ≡ length vs
         → zs₂ ≡ take n zs₁ ++ replicate (length zs₁ - n) 0 → vs₂ ≡ take n vs₁ ++ replicate (length vs₁ - n) 0·0
-        → (Clipped.Cells n, zs₂, vs₂) ≡ clip_call m ss es zs vs
+        → (Ok n, zs₂, vs₂) ≡ clip_call m ss es zs vs
     unfolding clip_call clip_refusal places_refusal padded
     call_clipped n zs₁ vs₁ zs₂ vs₂ k u s lz lv cz cv =
         let l = clipped_of m.zuniqs m.values ss es in

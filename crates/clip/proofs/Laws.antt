@@ -31,7 +31,7 @@ use Rattle.coverage.specs.Promises.{Parted}
 use Rattle.coverage.proofs.Given.{accepted_parted}
 use Rattle.coverage.proofs.Exact.{coverage_parted}
 use Rattle.coverage.proofs.Laws.{ranges_again, front}
-use Rattle.clip.specs.declared.Clipped.{Clipped}
+use Rattle.std.specs.Prelude.{Result, Ok, Err}
 use Rattle.clip.specs.Clip.{clipped}
 use Rattle.clip.specs.Promises.{Clips}
 use Rattle.clip.specs.Call.{clipped_of, clip_input_refusal, clip_refusal, clipped_or, clip_call}
@@ -56,29 +56,29 @@ cover_of-map D zs vs n v = ap (coverage_of 29) (laid_again D 0 zs vs n (valid_ri
 
 -- ---- every call
 -- the number that is answered
-abbrev cells_in : Clipped → ℕ
-cells_in (Clipped.Cells n) = n
-cells_in (Clipped.Refused r) = 0
+abbrev cells_in : Result ℕ Refusal → ℕ
+cells_in (Ok n) = n
+cells_in (Err r) = 0
 
-abbrev is_cells : Clipped → Bool
-is_cells (Clipped.Cells n) = true
-is_cells (Clipped.Refused r) = false
+abbrev is_cells : Result ℕ Refusal → Bool
+is_cells (Ok n) = true
+is_cells (Err r) = false
 
 -- the answer, and the output afterwards
 abbrev Answered : Type 0
-Answered = Clipped × List ℕ × List Float
+Answered = Result ℕ Refusal × List ℕ × List Float
 
 module _ (m : Given Float) (ss es : List ℕ) (zs : List ℕ) (vs : List Float) where
   abbrev l : List (Entry Float)
   l = clipped_of m.zuniqs m.values ss es
 
-  accepted : (o : Option Refusal) (n : ℕ) (xs : List ℕ) (ws : List Float) → clipped_or o l zs vs ≡ (Clipped.Cells n, xs, ws)
+  accepted : (o : Option Refusal) (n : ℕ) (xs : List ℕ) (ws : List Float) → clipped_or o l zs vs ≡ (Ok n, xs, ws)
       → (o ≡ none) × (n ≡ length l) × (xs ≡ padded 0 (length zs) (map (zuniq_of 29) l)) × (ws ≡ padded 0·0 (length vs) (map value_of l))
   accepted (some r) n xs ws e = absurd (false≢true (ap (λ (t : Answered). is_cells t.0) e))
   accepted none n xs ws e = (refl, sym (ap (λ (t : Answered). cells_in t.0) e), sym (ap (λ (t : Answered). t.1) e), sym (ap (λ (t : Answered). t.2) e))
 
   -- the clip is exactly the cells of the note's sentence, a valid map of depth 29, and its coverage is the intersection
-  pub clip_clips : (n : ℕ) (xs : List ℕ) (ws : List Float) → clip_call m ss es zs vs ≡ (Clipped.Cells n, xs, ws) → Clips m ss es n xs ws
+  pub clip_clips : (n : ℕ) (xs : List ℕ) (ws : List Float) → clip_call m ss es zs vs ≡ (Ok n, xs, ws) → Clips m ss es n xs ws
   unfolding clip_call clip_refusal
   clip_clips n xs ws e =
       let a = accepted (clip_refusal m ss es (length zs) (length vs)) n xs ws e in
@@ -118,7 +118,7 @@ module _ (m : Given Float) (good : Good m) where
   -- "Clipping to the map's own coverage gives its entries back": the call is not refused where there is a place for each entry, and
   -- leaves the map's own zuniqs and densities.
   pub clip_own_call : (zs : List ℕ) (vs : List Float) → length zs ≡ length vs → length m.zuniqs ≤ length zs
-      → clip_call m (map from_of (coverage_of 29 m.zuniqs)) (map to_of (coverage_of 29 m.zuniqs)) zs vs ≡ (Clipped.Cells (length m.zuniqs), padded 0 (length zs) m.zuniqs, padded 0·0 (length vs) m.values)
+      → clip_call m (map from_of (coverage_of 29 m.zuniqs)) (map to_of (coverage_of 29 m.zuniqs)) zs vs ≡ (Ok (length m.zuniqs), padded 0 (length zs) m.zuniqs, padded 0·0 (length vs) m.values)
   unfolding clip_call clip_refusal places_refusal
   clip_own_call zs vs e room =
       let own = coverage_of 29 m.zuniqs in
@@ -128,8 +128,8 @@ module _ (m : Given Float) (good : Good m) where
       rw (ranges_again own, ← cover_of-map m.depth m.zuniqs m.values good.paired good.valid) (clip_own 29 (entries m) (entries_rise m.depth m.zuniqs m.values good.paired good.valid)) in
       rw (passes_with own (coverage_parted 29 m.depth m.zuniqs good.valid) (length zs) (length vs) e, back, k, le-ltb (length zs) (length m.zuniqs) room, k, l.0, l.1) refl
 
-  -- "An empty coverage gives the empty map": the call is not refused, answers 0, and every place is 0.
-  pub clip_empty_call : (zs : List ℕ) (vs : List Float) → length zs ≡ length vs → clip_call m [] [] zs vs ≡ (Clipped.Cells 0, replicate (length zs) 0, replicate (length vs) 0·0)
+  -- An empty coverage gives the empty map: the call is not refused, answers 0, and every place is 0.
+  pub clip_empty_call : (zs : List ℕ) (vs : List Float) → length zs ≡ length vs → clip_call m [] [] zs vs ≡ (Ok 0, replicate (length zs) 0, replicate (length vs) 0·0)
   unfolding clip_call clip_refusal places_refusal padded ranges_of
   clip_empty_call zs vs e =
       let none_left : clipped 29 (entries m) [] ≡ [] = clip_empty 29 (entries m) (entries_rise m.depth m.zuniqs m.values good.paired good.valid) in

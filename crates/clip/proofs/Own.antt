@@ -53,7 +53,7 @@ module _ {A : Type 0} (K : ℕ) (l : List (Entry A)) (rs : List Range) (rising :
       let j = (lies_in-iff_some_child K k d h (omega arith)).0 t in
       (Any-joined (LiesIn K k) 4 (λ i. clip_in K l rs n (suc d) (child_hash h i))).1 (j.0, j.1, covered_in n (suc d) (child_hash h j.0) k (omega arith) j.2 c i))
 
-  -- The clipped map "covers exactly the depth-29 cells that are in an entry and in the coverage".
+  -- The clipped map covers exactly the depth-29 cells that are in an entry and in the coverage.
   pub clip_covers : (k : ℕ) → Covers (clipped K l rs) K k ↔ (Covers l K k × InRanges rs k)
   unfolding clipped
   clip_covers k = (
@@ -117,7 +117,7 @@ module _ {A : Type 0} (K : ℕ) where
         rw cover_is (λ m. ranges.1 (join.0 m), λ c. join.1 (ranges.0 c))
 
 module _ {A : Type 0} (K : ℕ) (l : List (Entry A)) (rising : Rises K 0 (n_hash K) l) where
-  -- "The coverage of a clip is the intersection": of the map's own coverage and the given one.
+  -- The coverage of a clip is the intersection of the map's own coverage and the given one.
   pub clip_coverage : (rs : List Range) → Parted 0 (n_hash K) rs → cover_of K (clipped K l rs) ≡ intersection (cover_of K l) rs
   clip_coverage rs parted =
       let both = clip_covers K l rs rising in

@@ -22,9 +22,9 @@ use Rattle.coverage.specs.Promises.{HasRange, Parted, RangeOf}
 use Rattle.coverage.proofs.Ranges.{Parted-has, Parted-from}
 use Rattle.coverage.proofs.Inside.{end-is_start_plus_width}
 use Rattle.coverage.proofs.Given.{ranges_drop, ranges_drop_end}
-use Rattle.clip.specs.declared.Pass.{Pass}
+use Rattle.clip.specs.Passes.{Aim}
 use Rattle.clip.specs.Call.{clipped_of}
-use Rattle.clip.specs.Passes.{LargestAt, LargestWidth, Cut, CutInto, Outcome, Room, CanCut, IsCut, CanKeep, Kept}
+use Rattle.clip.specs.Passes.{LargestAt, LargestWidth, Cut, CutInto, Taken, Room, CanCut, IsCut, CanKeep, Kept}
 use Rattle.clip.proofs.Tree.{clip_rises, clip_has_iff}
 use Rattle.clip.proofs.Levels.{width_le}
 use Rattle.clip.proofs.Swept.{Swept, Swept-start, Swept-entries, Swept-ranges, skip_entry, skip_range, Swept-cut}
@@ -51,33 +51,29 @@ module _ {B : Type 0} (f : Entry Float → B) where
       let j : n ≡ 0 + length w = omega arith in
       rw (q, t, map-append) (ap (λ (ys : List B). ys ++ map f l) (rw (← j) at s))
 
-Outcome-none : (pass : Pass) (n : ℕ) (zs : List ℕ) (vs : List Float) → Outcome pass n [] zs vs zs vs
-Outcome-none Pass.Count n zs vs = (refl, refl)
-Outcome-none Pass.Write n zs vs = (Stood-none (zuniq_of 29) n zs, Stood-none value_of n vs)
+Taken-none : (aim : Aim) (n : ℕ) (zs : List ℕ) (vs : List Float) → Taken aim n [] zs vs zs vs
+Taken-none Aim.Count n zs vs = (refl, refl)
+Taken-none Aim.Write n zs vs = (Stood-none (zuniq_of 29) n zs, Stood-none value_of n vs)
 
 -- Counted or written, a cell is one more.
-Outcome-more : (pass : Pass) (n m : ℕ) (l : List (Entry Float)) (e : Entry Float) (z : ℕ) (v : Float) (zs₀ : List ℕ) (vs₀ : List Float) (zs : List ℕ) (vs : List Float) (zs' : List ℕ) (vs' : List Float)
-    → m ≡ n + length l → z ≡ zuniq_of 29 e → v ≡ value_of e → CanKeep pass m zs vs → Outcome pass n l zs₀ vs₀ zs vs → Kept pass m z v zs vs zs' vs' → Outcome pass n (l ++ (e ∷ [])) zs₀ vs₀ zs' vs'
-Outcome-more Pass.Count n m l e z v zs₀ vs₀ zs vs zs' vs' k p q u o h = (h.0 ∙ o.0, h.1 ∙ o.1)
-Outcome-more Pass.Write n m l e z v zs₀ vs₀ zs vs zs' vs' k p q u o h = (
+Taken-more : (aim : Aim) (n m : ℕ) (l : List (Entry Float)) (e : Entry Float) (z : ℕ) (v : Float) (zs₀ : List ℕ) (vs₀ : List Float) (zs : List ℕ) (vs : List Float) (zs' : List ℕ) (vs' : List Float)
+    → m ≡ n + length l → z ≡ zuniq_of 29 e → v ≡ value_of e → CanKeep aim m zs vs → Taken aim n l zs₀ vs₀ zs vs → Kept aim m z v zs vs zs' vs' → Taken aim n (l ++ (e ∷ [])) zs₀ vs₀ zs' vs'
+Taken-more Aim.Count n m l e z v zs₀ vs₀ zs vs zs' vs' k p q u o h = (h.0 ∙ o.0, h.1 ∙ o.1)
+Taken-more Aim.Write n m l e z v zs₀ vs₀ zs vs zs' vs' k p q u o h = (
   rw h.0 (Stood-more (zuniq_of 29) n m l e z zs₀ zs k u.0 p o.0),
   rw h.1 (Stood-more value_of n m l e v vs₀ vs k u.1 q o.1),
 )
 
-Outcome-behind : (pass : Pass) (n : ℕ) (w l : List (Entry Float)) (zs₀ : List ℕ) (vs₀ : List Float) (zs : List ℕ) (vs : List Float) (zs' : List ℕ) (vs' : List Float)
-    → n ≡ length w → Outcome pass 0 w zs₀ vs₀ zs vs → Outcome pass n l zs vs zs' vs' → Outcome pass 0 (w ++ l) zs₀ vs₀ zs' vs'
-Outcome-behind Pass.Count n w l zs₀ vs₀ zs vs zs' vs' k o h = (h.0 ∙ o.0, h.1 ∙ o.1)
-Outcome-behind Pass.Write n w l zs₀ vs₀ zs vs zs' vs' k o h = (Stood-behind (zuniq_of 29) n w l zs₀ zs zs' k o.0 h.0, Stood-behind value_of n w l vs₀ vs vs' k o.1 h.1)
-
--- What writing asks for.
-pub can_write : (pass : Pass) (n : ℕ) (zs : List ℕ) (vs : List Float) → pass ≡ Pass.Write → CanKeep pass n zs vs → (n < length zs) × (n < length vs)
-can_write pass n zs vs e h = rw e at h
+Taken-behind : (aim : Aim) (n : ℕ) (w l : List (Entry Float)) (zs₀ : List ℕ) (vs₀ : List Float) (zs : List ℕ) (vs : List Float) (zs' : List ℕ) (vs' : List Float)
+    → n ≡ length w → Taken aim 0 w zs₀ vs₀ zs vs → Taken aim n l zs vs zs' vs' → Taken aim 0 (w ++ l) zs₀ vs₀ zs' vs'
+Taken-behind Aim.Count n w l zs₀ vs₀ zs vs zs' vs' k o h = (h.0 ∙ o.0, h.1 ∙ o.1)
+Taken-behind Aim.Write n w l zs₀ vs₀ zs vs zs' vs' k o h = (Stood-behind (zuniq_of 29) n w l zs₀ zs zs' k o.0 h.0, Stood-behind value_of n w l vs₀ vs vs' k o.1 h.1)
 
 -- Where there is room for one more, it can be kept.
-can_keep : (pass : Pass) (n m : ℕ) (l : List (Entry Float)) (e : Entry Float) (zs₀ : List ℕ) (vs₀ : List Float) (zs : List ℕ) (vs : List Float)
-    → m ≡ n + length l → length zs ≡ length zs₀ → length vs ≡ length vs₀ → Room pass n (l ++ (e ∷ [])) zs₀ vs₀ → CanKeep pass m zs vs
-can_keep Pass.Count n m l e zs₀ vs₀ zs vs k lz lv r = omega (arith, length-append l (e ∷ []), r)
-can_keep Pass.Write n m l e zs₀ vs₀ zs vs k lz lv r = (omega (arith, length-append l (e ∷ []), r.0), omega (arith, length-append l (e ∷ []), r.1))
+can_keep : (aim : Aim) (n m : ℕ) (l : List (Entry Float)) (e : Entry Float) (zs₀ : List ℕ) (vs₀ : List Float) (zs : List ℕ) (vs : List Float)
+    → m ≡ n + length l → length zs ≡ length zs₀ → length vs ≡ length vs₀ → Room aim n (l ++ (e ∷ [])) zs₀ vs₀ → CanKeep aim m zs vs
+can_keep Aim.Count n m l e zs₀ vs₀ zs vs k lz lv r = omega (arith, length-append l (e ∷ []), r)
+can_keep Aim.Write n m l e zs₀ vs₀ zs vs k lz lv r = (omega (arith, length-append l (e ∷ []), r.0), omega (arith, length-append l (e ∷ []), r.1))
 
 -- ---- cutting a piece
 -- One more cell is cut off.
@@ -86,30 +82,30 @@ Cut-more K a b v p [] d h t g = (rw t at g, refl, refl)
 Cut-more K a b v p (e ∷ l) d h t g = (t.0, t.1, Cut-more K (end_of K e) b v p l d h t.2 g)
 
 -- The piece from a to b is cut up to the place `at`, and there are m cells.
-pub record Cutting (pass : Pass) (n a b : ℕ) (v : Float) (zs₀ : List ℕ) (vs₀ : List Float) (zs : List ℕ) (vs : List Float) (m at : ℕ) : Type 0 where
+pub record Cutting (aim : Aim) (n a b : ℕ) (v : Float) (zs₀ : List ℕ) (vs₀ : List Float) (zs : List ℕ) (vs : List Float) (m at : ℕ) : Type 0 where
   pub cells : List (Entry Float)
   pub cut : Cut 29 a b v at cells
   pub past : a ≤ at
   pub number : m ≡ n + length cells
-  pub outcome : Outcome pass n cells zs₀ vs₀ zs vs
+  pub taken : Taken aim n cells zs₀ vs₀ zs vs
   pub places : length zs ≡ length zs₀
   pub values : length vs ≡ length vs₀
 
-module _ (pass : Pass) (n a b : ℕ) (v : Float) (zs₀ : List ℕ) (vs₀ : List Float) where
-  pub Cutting-start : Cutting pass n a b v zs₀ vs₀ zs₀ vs₀ n a
+module _ (aim : Aim) (n a b : ℕ) (v : Float) (zs₀ : List ℕ) (vs₀ : List Float) where
+  pub Cutting-start : Cutting aim n a b v zs₀ vs₀ zs₀ vs₀ n a
   Cutting-start = record {
     cells = [];
     cut = refl;
     past = omega arith;
     number = omega arith;
-    outcome = Outcome-none pass n zs₀ vs₀;
+    taken = Taken-none aim n zs₀ vs₀;
     places = refl;
     values = refl;
   }
 
-  module _ (zs : List ℕ) (vs : List Float) (m at : ℕ) (s : Cutting pass n a b v zs₀ vs₀ zs vs m at) where
-    pub cutting_end : b ≤ at → IsCut pass n a b v zs₀ vs₀ m zs vs
-    cutting_end u = record { cells = s.cells; place = at; cut = s.cut; done = u; number = s.number; outcome = s.outcome }
+  module _ (zs : List ℕ) (vs : List Float) (m at : ℕ) (s : Cutting aim n a b v zs₀ vs₀ zs vs m at) where
+    pub cutting_end : b ≤ at → IsCut aim n a b v zs₀ vs₀ m zs vs
+    cutting_end u = record { cells = s.cells; place = at; cut = s.cut; done = u; number = s.number; taken = s.taken }
 
     module _ (width : ℕ) (g : LargestWidth 29 at b width) where
       abbrev next : Entry Float
@@ -128,17 +124,17 @@ module _ (pass : Pass) (n a b : ℕ) (v : Float) (zs₀ : List ℕ) (vs₀ : Lis
       pub width_within : (0 < width) × (at + width ≤ b)
       width_within = (omega (arith, start-lt_end 29 g.0 g.1, end_here, g.2.starts), omega (arith, g.2.ends, end_here))
 
-      pub CanKeep-here : CanCut pass n a b v zs₀ vs₀ → CanKeep pass m zs vs
-      CanKeep-here can = can_keep pass n m s.cells next zs₀ vs₀ zs vs s.number s.places s.values (can (end_of 29 next) (s.cells ++ (next ∷ [])) cut_on)
+      pub CanKeep-here : CanCut aim n a b v zs₀ vs₀ → CanKeep aim m zs vs
+      CanKeep-here can = can_keep aim n m s.cells next zs₀ vs₀ zs vs s.number s.places s.values (can (end_of 29 next) (s.cells ++ (next ∷ [])) cut_on)
 
-      pub Cutting-on : CanCut pass n a b v zs₀ vs₀ → (zs' : List ℕ) (vs' : List Float) (m' : ℕ) → m' ≡ m + 1 → Kept pass m (2 * at + width) v zs vs zs' vs' → length zs' ≡ length zs → length vs' ≡ length vs
-          → Cutting pass n a b v zs₀ vs₀ zs' vs' m' (at + width)
+      pub Cutting-on : CanCut aim n a b v zs₀ vs₀ → (zs' : List ℕ) (vs' : List Float) (m' : ℕ) → m' ≡ m + 1 → Kept aim m (2 * at + width) v zs vs zs' vs' → length zs' ≡ length zs → length vs' ≡ length vs
+          → Cutting aim n a b v zs₀ vs₀ zs' vs' m' (at + width)
       Cutting-on can zs' vs' m' k h lz lv = record {
         cells = s.cells ++ (next ∷ []);
         cut = rw end_here cut_on;
         past = omega (arith, s.past);
         number = omega (arith, s.number, length-append s.cells (next ∷ []));
-        outcome = Outcome-more pass n m s.cells next (2 * at + width) v zs₀ vs₀ zs vs zs' vs' s.number zuniq_here refl (CanKeep-here can) s.outcome h;
+        taken = Taken-more aim n m s.cells next (2 * at + width) v zs₀ vs₀ zs vs zs' vs' s.number zuniq_here refl (CanKeep-here can) s.taken h;
         places = lz ∙ s.places;
         values = lv ∙ s.values;
       }
@@ -151,17 +147,15 @@ piece_within z a b s t x u =
     (omega arith, omega (arith, x.starts, x.ends))
 
 -- ---- a piece that is counted
-module _ (pass : Pass) (n a b r : ℕ) (v : Float) (zs : List ℕ) (vs : List Float) (is : pass ≡ Pass.Count) (into : CutInto 29 a b v r) where
-  pub counted_fits : CanCut pass n a b v zs vs → n + r < 2 ^ 64
-  counted_fits can =
-      let room : Room Pass.Count n into.1 zs vs = rw is at (can into.0 into.1 into.2) in
-      omega (arith, room, into.4)
+module _ (n a b r : ℕ) (v : Float) (zs : List ℕ) (vs : List Float) (into : CutInto 29 a b v r) where
+  pub counted_fits : CanCut Aim.Count n a b v zs vs → n + r < 2 ^ 64
+  counted_fits can = omega (arith, can into.0 into.1 into.2, into.4)
 
-  pub counted : IsCut pass n a b v zs vs (n + r) zs vs
-  counted = rw is (record { cells = into.1; place = into.0; cut = into.2; done = into.3; number = ap (λ (k : ℕ). n + k) into.4; outcome = (refl, refl) })
+  pub counted : IsCut Aim.Count n a b v zs vs (n + r) zs vs
+  counted = record { cells = into.1; place = into.0; cut = into.2; done = into.3; number = ap (λ (k : ℕ). n + k) into.4; taken = (refl, refl) }
 
 -- ---- an entry that lies in a range as a whole
-module _ (pass : Pass) (n z a b s t : ℕ) (v : Float) (zs : List ℕ) (vs : List Float) (x : RangeOf 29 z a b) (from : s ≤ a) (to : b ≤ t) where
+module _ (aim : Aim) (n z a b s t : ℕ) (v : Float) (zs : List ℕ) (vs : List Float) (x : RangeOf 29 z a b) (from : s ≤ a) (to : b ≤ t) where
   abbrev itself : Entry Float
   itself = entry x.depth x.hash v
 
@@ -176,18 +170,18 @@ module _ (pass : Pass) (n z a b s t : ℕ) (v : Float) (zs : List ℕ) (vs : Lis
   itself-cut : Cut 29 (max a s) (min b t) v (end_of 29 itself) (itself ∷ [])
   itself-cut = (itself_largest, refl, refl)
 
-  pub CanKeep-whole : CanCut pass n (max a s) (min b t) v zs vs → CanKeep pass n zs vs
-  CanKeep-whole can = can_keep pass n n [] itself zs vs zs vs (omega arith) refl refl (can (end_of 29 itself) (itself ∷ []) itself-cut)
+  pub CanKeep-whole : CanCut aim n (max a s) (min b t) v zs vs → CanKeep aim n zs vs
+  CanKeep-whole can = can_keep aim n n [] itself zs vs zs vs (omega arith) refl refl (can (end_of 29 itself) (itself ∷ []) itself-cut)
 
   -- It is cut into itself.
-  pub whole_cut : CanCut pass n (max a s) (min b t) v zs vs → (zs' : List ℕ) (vs' : List Float) (r : ℕ) → r ≡ n + 1 → Kept pass n z v zs vs zs' vs' → IsCut pass n (max a s) (min b t) v zs vs r zs' vs'
+  pub whole_cut : CanCut aim n (max a s) (min b t) v zs vs → (zs' : List ℕ) (vs' : List Float) (r : ℕ) → r ≡ n + 1 → Kept aim n z v zs vs zs' vs' → IsCut aim n (max a s) (min b t) v zs vs r zs' vs'
   whole_cut can zs' vs' r k h = record {
     cells = itself ∷ [];
     place = end_of 29 itself;
     cut = itself-cut;
     done = omega (arith, x.ends);
     number = omega arith;
-    outcome = Outcome-more pass n n [] itself z v zs vs zs vs zs' vs' (omega arith) x.is.is refl (CanKeep-whole can) (Outcome-none pass n zs vs) h;
+    taken = Taken-more aim n n [] itself z v zs vs zs vs zs' vs' (omega arith) x.is.is refl (CanKeep-whole can) (Taken-none aim n zs vs) h;
   }
 
 -- ---- the walk
@@ -218,14 +212,14 @@ unfolding entries_of
 entries_drop_end zs vs i u = rw (drop_of_length-le zs u) refl
 
 -- Room for all cells is room for the first of them.
-Room-less : (pass : Pass) (n : ℕ) (w l m : List (Entry Float)) (zs₀ : List ℕ) (vs₀ : List Float) (zs : List ℕ) (vs : List Float)
-    → n ≡ length w → length (w ++ l) ≤ length m → length zs ≡ length zs₀ → length vs ≡ length vs₀ → Room pass 0 m zs₀ vs₀ → Room pass n l zs vs
-Room-less Pass.Count n w l m zs₀ vs₀ zs vs k u lz lv r = omega (arith, length-append w l, r)
-Room-less Pass.Write n w l m zs₀ vs₀ zs vs k u lz lv r = (omega (arith, length-append w l, r.0), omega (arith, length-append w l, r.1))
+Room-less : (aim : Aim) (n : ℕ) (w l m : List (Entry Float)) (zs₀ : List ℕ) (vs₀ : List Float) (zs : List ℕ) (vs : List Float)
+    → n ≡ length w → length (w ++ l) ≤ length m → length zs ≡ length zs₀ → length vs ≡ length vs₀ → Room aim 0 m zs₀ vs₀ → Room aim n l zs vs
+Room-less Aim.Count n w l m zs₀ vs₀ zs vs k u lz lv r = omega (arith, length-append w l, r)
+Room-less Aim.Write n w l m zs₀ vs₀ zs vs k u lz lv r = (omega (arith, length-append w l, r.0), omega (arith, length-append w l, r.1))
 
 module _ (mz : List ℕ) (mv : List Float) (ss es : List ℕ) where
   -- The walk has come to the entry i and the range j, and there are n cells: those up to a place that no piece starts before.
-  pub record Walking (pass : Pass) (zs₀ : List ℕ) (vs₀ : List Float) (zs : List ℕ) (vs : List Float) (n i j : ℕ) : Type 0 where
+  pub record Walking (aim : Aim) (zs₀ : List ℕ) (vs₀ : List Float) (zs : List ℕ) (vs : List Float) (n i j : ℕ) : Type 0 where
     pub place : ℕ
     pub cells : List (Entry Float)
     pub swept : Swept 29 (entries_of mz mv) (ranges_of ss es) place (entries_of (drop i mz) (drop i mv)) (ranges_of (drop j ss) (drop j es)) cells
@@ -233,15 +227,15 @@ module _ (mz : List ℕ) (mv : List Float) (ss es : List ℕ) where
     pub rising : Rises 29 0 (n_hash 29) (entries_of (drop i mz) (drop i mv))
     pub parted : Parted 0 (n_hash 29) (ranges_of (drop j ss) (drop j es))
     pub number : n ≡ length cells
-    pub outcome : Outcome pass 0 cells zs₀ vs₀ zs vs
+    pub taken : Taken aim 0 cells zs₀ vs₀ zs vs
     pub places : length zs ≡ length zs₀
     pub values : length vs ≡ length vs₀
     pub entries : i ≤ length mz
     pub ranges : j ≤ length ss
 
   module _ (holds : Holds mz mv) (paired : length ss ≡ length es) (parts : Parted 0 (n_hash 29) (ranges_of ss es)) where
-    pub walking_start : (pass : Pass) (zs : List ℕ) (vs : List Float) → Walking pass zs vs zs vs 0 0 0
-    walking_start pass zs vs = record {
+    pub walking_start : (aim : Aim) (zs : List ℕ) (vs : List Float) → Walking aim zs vs zs vs 0 0 0
+    walking_start aim zs vs = record {
       place = 0;
       cells = [];
       swept = Swept-start 29 (entries_of mz mv) (ranges_of ss es);
@@ -249,25 +243,25 @@ module _ (mz : List ℕ) (mv : List Float) (ss es : List ℕ) where
       rising = holds.rises;
       parted = parts;
       number = refl;
-      outcome = Outcome-none pass 0 zs vs;
+      taken = Taken-none aim 0 zs vs;
       places = refl;
       values = refl;
       entries = omega arith;
       ranges = omega arith;
     }
 
-    module _ (pass : Pass) (zs₀ : List ℕ) (vs₀ : List Float) (zs : List ℕ) (vs : List Float) (n i j : ℕ) (s : Walking pass zs₀ vs₀ zs vs n i j) where
+    module _ (aim : Aim) (zs₀ : List ℕ) (vs₀ : List Float) (zs : List ℕ) (vs : List Float) (n i j : ℕ) (s : Walking aim zs₀ vs₀ zs vs n i j) where
       Swept-is : (l₂ : List (Entry Float)) (rs₂ : List Range) → entries_of (drop i mz) (drop i mv) ≡ l₂ → ranges_of (drop j ss) (drop j es) ≡ rs₂ → Swept 29 (entries_of mz mv) (ranges_of ss es) s.place l₂ rs₂ s.cells
       Swept-is l₂ rs₂ p q = rw (p, q) at s.swept
 
       -- With no entry left, or no range, the cells are those of the clipped map.
-      done : s.cells ≡ clipped_of mz mv ss es → (n ≡ length (clipped_of mz mv ss es)) × Outcome pass 0 (clipped_of mz mv ss es) zs₀ vs₀ zs vs
-      done e = (s.number ∙ ap length e, rw e at s.outcome)
+      done : s.cells ≡ clipped_of mz mv ss es → (n ≡ length (clipped_of mz mv ss es)) × Taken aim 0 (clipped_of mz mv ss es) zs₀ vs₀ zs vs
+      done e = (s.number ∙ ap length e, rw e at s.taken)
 
-      pub entries_done : length mz ≤ i → (n ≡ length (clipped_of mz mv ss es)) × Outcome pass 0 (clipped_of mz mv ss es) zs₀ vs₀ zs vs
+      pub entries_done : length mz ≤ i → (n ≡ length (clipped_of mz mv ss es)) × Taken aim 0 (clipped_of mz mv ss es) zs₀ vs₀ zs vs
       entries_done u = done (Swept-entries 29 (entries_of mz mv) (ranges_of ss es) holds.rises parts s.place (ranges_of (drop j ss) (drop j es)) s.cells (Swept-is [] _ (entries_drop_end mz mv i u) refl))
 
-      pub ranges_done : length ss ≤ j → (n ≡ length (clipped_of mz mv ss es)) × Outcome pass 0 (clipped_of mz mv ss es) zs₀ vs₀ zs vs
+      pub ranges_done : length ss ≤ j → (n ≡ length (clipped_of mz mv ss es)) × Taken aim 0 (clipped_of mz mv ss es) zs₀ vs₀ zs vs
       ranges_done u = done (Swept-ranges 29 (entries_of mz mv) (ranges_of ss es) holds.rises parts s.place (entries_of (drop i mz) (drop i mv)) s.cells (Swept-is _ [] refl (ranges_drop_end ss es j u)))
 
       module _ (u : i < length mz) (v : j < length ss) (a b : ℕ) (x : RangeOf 29 (get_or mz i 0) a b) (from to : ℕ) (f_is : from ≡ max a (get_or ss j 0)) (t_is : to ≡ min b (get_or es j 0)) where
@@ -315,22 +309,22 @@ module _ (mz : List ℕ) (mv : List Float) (ss es : List ℕ) where
             → (p : ℕ) × Swept 29 (entries_of mz mv) (ranges_of ss es) p (e ∷ l₂) (r ∷ rs₂) (s.cells ++ cells) × (max p (max (start_of 29 e) r.from) ≡ q)
         Cut-so_far q cells t = Swept-cut 29 (entries_of mz mv) (ranges_of ss es) holds.rises parts s.place e l₂ r rs₂ s.cells rising₂ parted₂ swept₂ from q cells from_is (rw to_is t)
 
-        pub can_cut : Room pass 0 (clipped_of mz mv ss es) zs₀ vs₀ → CanCut pass n from to (get_or mv i nan) zs vs
+        pub can_cut : Room aim 0 (clipped_of mz mv ss es) zs₀ vs₀ → CanCut aim n from to (get_or mv i nan) zs vs
         can_cut room q cells t =
             let w = Cut-so_far q cells t in
             let sub = Rises-sub 29 0 w.0 0 (n_hash 29) (s.cells ++ cells) (clipped_of mz mv ss es) w.1.rises (clip_rises 29 (entries_of mz mv) (ranges_of ss es))
             (λ o m. (clip_has_iff 29 (entries_of mz mv) (ranges_of ss es) holds.rises o).1 (w.1.sound o m)) in
-            Room-less pass n s.cells cells (clipped_of mz mv ss es) zs₀ vs₀ zs vs s.number sub s.places s.values room
+            Room-less aim n s.cells cells (clipped_of mz mv ss es) zs₀ vs₀ zs vs s.number sub s.places s.values room
 
-        module _ (zs' : List ℕ) (vs' : List Float) (n' : ℕ) (c : IsCut pass n from to (get_or mv i nan) zs vs n' zs' vs') (lz : length zs' ≡ length zs) (lv : length vs' ≡ length vs) where
+        module _ (zs' : List ℕ) (vs' : List Float) (n' : ℕ) (c : IsCut aim n from to (get_or mv i nan) zs vs n' zs' vs') (lz : length zs' ≡ length zs) (lv : length vs' ≡ length vs) where
           cells' : List (Entry Float)
           cells' = s.cells ++ c.cells
 
           number' : n' ≡ length (s.cells ++ c.cells)
           number' = omega (arith, s.number, c.number, length-append s.cells c.cells)
 
-          outcome' : Outcome pass 0 (s.cells ++ c.cells) zs₀ vs₀ zs' vs'
-          outcome' = Outcome-behind pass n s.cells c.cells zs₀ vs₀ zs vs zs' vs' s.number s.outcome c.outcome
+          taken' : Taken aim 0 (s.cells ++ c.cells) zs₀ vs₀ zs' vs'
+          taken' = Taken-behind aim n s.cells c.cells zs₀ vs₀ zs vs zs' vs' s.number s.taken c.taken
 
           so_far : (p : ℕ) × Swept 29 (entries_of mz mv) (ranges_of ss es) p (e ∷ l₂) (r ∷ rs₂) (s.cells ++ c.cells) × (max p (max (start_of 29 e) r.from) ≡ c.place)
           so_far = Cut-so_far c.place c.cells c.cut
@@ -339,7 +333,7 @@ module _ (mz : List ℕ) (mv : List Float) (ss es : List ℕ) where
           apart = rw (to_is, so_far.2) c.done
 
           -- The entry ends first.
-          pub past_entry : b ≤ get_or es j 0 → Walking pass zs₀ vs₀ zs' vs' n' (i + 1) j
+          pub past_entry : b ≤ get_or es j 0 → Walking aim zs₀ vs₀ zs' vs' n' (i + 1) j
           past_entry first =
               let le : end_of 29 e ≤ r.to = rw (← x.ends) first in
               record {
@@ -350,7 +344,7 @@ module _ (mz : List ℕ) (mv : List Float) (ss es : List ℕ) where
                 rising = Rises-from 29 0 (end_of 29 e) (n_hash 29) l₂ (omega arith) rising₂.2;
                 parted = s.parted;
                 number = number';
-                outcome = outcome';
+                taken = taken';
                 places = lz ∙ s.places;
                 values = lv ∙ s.values;
                 entries = omega arith;
@@ -358,7 +352,7 @@ module _ (mz : List ℕ) (mv : List Float) (ss es : List ℕ) where
               }
 
           -- The range ends first.
-          pub past_range : get_or es j 0 < b → Walking pass zs₀ vs₀ zs' vs' n' i (j + 1)
+          pub past_range : get_or es j 0 < b → Walking aim zs₀ vs₀ zs' vs' n' i (j + 1)
           past_range first =
               let le : r.to ≤ end_of 29 e = rw (← x.ends) (omega arith) in
               record {
@@ -369,7 +363,7 @@ module _ (mz : List ℕ) (mv : List Float) (ss es : List ℕ) where
                 rising = s.rising;
                 parted = Parted-from 0 (r.to + 1) (n_hash 29) rs₂ (omega arith) parted₂.3;
                 number = number';
-                outcome = outcome';
+                taken = taken';
                 places = lz ∙ s.places;
                 values = lv ∙ s.values;
                 entries = s.entries;

@@ -1,6 +1,6 @@
 -- Note 6 of document 02: the clip call. Its refusals are one definition, the first that applies in the order of the table; its answer
 -- and the output afterwards are another.
-use Rattle.std.specs.Prelude.{List, map, ℕ, ltb, Float, length}
+use Rattle.std.specs.Prelude.{Result, Ok, Err, List, map, ℕ, ltb, Float, length}
 use Rattle.std.proofs.Math.Option.{Option, none, some}
 use Rattle.refusal.specs.declared.Refusal.{Refusal}
 use Rattle.zuniq.specs.Cells.{n_hash}
@@ -11,12 +11,10 @@ use Rattle.build.specs.Map.{Entry}
 use Rattle.build.specs.Buffers.{zuniq_of, value_of}
 use Rattle.build.specs.Add.{map_refusal}
 use Rattle.build.specs.Densities.{density_refusal}
-use Rattle.refusal.specs.declared.Check.{Check}
 use Rattle.combine.specs.Slices.{entries_of}
 use Rattle.combine.specs.Pool.{Given, pairs_refusal, places_refusal}
 use Rattle.coverage.specs.Ranges.{ranges_of, padded, ranges_refusal}
 use Rattle.clip.specs.Clip.{clipped}
-use Rattle.clip.specs.declared.Clipped.{Clipped}
 
 -- "Given a density map and a coverage": the cells, from the buffers
 abbrev pub clipped_of : List ℕ → List Float → List ℕ → List ℕ → List (Entry Float)
@@ -38,14 +36,9 @@ clip_refusal m ss es places values =
     or_else (clip_input_refusal m ss es places values) (places_refusal places (length (clipped_of m.zuniqs m.values ss es)))
 
 -- the answer, and the output afterwards, which held zs and vs: the cells l, "and places after them are 0"
-abbrev pub clipped_or : Option Refusal → List (Entry Float) → List ℕ → List Float → Clipped × List ℕ × List Float
-clipped_or (some r) l zs vs = (Clipped.Refused r, zs, vs)
-clipped_or none l zs vs = (Clipped.Cells (length l), padded 0 (length zs) (map (zuniq_of 29) l), padded 0·0 (length vs) (map value_of l))
+abbrev pub clipped_or : Option Refusal → List (Entry Float) → List ℕ → List Float → Result ℕ Refusal × List ℕ × List Float
+clipped_or (some r) l zs vs = (Err r, zs, vs)
+clipped_or none l zs vs = (Ok (length l), padded 0 (length zs) (map (zuniq_of 29) l), padded 0·0 (length vs) (map value_of l))
 
-unfoldable pub clip_call : Given Float → List ℕ → List ℕ → List ℕ → List Float → Clipped × List ℕ × List Float
+unfoldable pub clip_call : Given Float → List ℕ → List ℕ → List ℕ → List Float → Result ℕ Refusal × List ℕ × List Float
 clip_call m ss es zs vs = clipped_or (clip_refusal m ss es (length zs) (length vs)) (clipped_of m.zuniqs m.values ss es) zs vs
-
--- of two checks the first that refuses
-abbrev pub first_of : Check → Check → Check
-first_of (Check.Refused r) second = Check.Refused r
-first_of Check.Passed second = second

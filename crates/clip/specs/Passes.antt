@@ -4,7 +4,6 @@ use Rattle.zuniq.specs.Cells.{start, end}
 use Rattle.build.specs.Map.{Entry}
 use Rattle.build.specs.Buffers.{zuniq_of, value_of}
 use Rattle.build.specs.Promises.{end_of}
-use Rattle.clip.specs.declared.Pass.{Pass}
 
 -- ---- the largest cells
 -- of the cells of depth up to K that start at a and end at b or before, (d, h) is the largest
@@ -18,7 +17,7 @@ pub record LargestAt (K a b d h : ℕ) : Type 0 where
 abbrev pub LargestWidth : ℕ → ℕ → ℕ → ℕ → Type 0
 LargestWidth K a b width = (d : ℕ) × (h : ℕ) × LargestAt K a b d h × (width ≡ 4 ^ (K - d))
 
--- "cut from the left into the largest cells that fit": of the piece from a to b the first cells, those up to p; v is their value
+-- cut from the left into the largest cells that fit: of the piece from a to b the first cells, those up to p; v is their value
 abbrev pub Cut : {A : Type 0} → ℕ → ℕ → ℕ → A → ℕ → List (Entry A) → Type 0
 Cut K a b v p [] = p ≡ a
 Cut K a b v p (e ∷ l) = LargestAt K a b e.depth e.hash × (e.value ≡ v) × Cut K (end_of K e) b v p l
@@ -37,35 +36,40 @@ digit_sum zero n = zero
 digit_sum (suc w) n = n % 4 + digit_sum w (n / 4)
 
 -- ---- counting and writing
+-- what is done with the cells that a walk comes to
+pub data Aim : Type 0 where
+  Count : Aim
+  Write : Aim
+
 -- Behind n others the cells l are counted, which leaves the buffers as they are, or written.
-abbrev pub Outcome : Pass → ℕ → List (Entry Float) → List ℕ → List Float → List ℕ → List Float → Type 0
-Outcome Pass.Count n l zs vs zs' vs' = (zs' ≡ zs) × (vs' ≡ vs)
-Outcome Pass.Write n l zs vs zs' vs' = (take (n + length l) zs' ≡ take n zs ++ map (zuniq_of 29) l) × (take (n + length l) vs' ≡ take n vs ++ map value_of l)
+abbrev pub Taken : Aim → ℕ → List (Entry Float) → List ℕ → List Float → List ℕ → List Float → Type 0
+Taken Aim.Count n l zs vs zs' vs' = (zs' ≡ zs) × (vs' ≡ vs)
+Taken Aim.Write n l zs vs zs' vs' = (take (n + length l) zs' ≡ take n zs ++ map (zuniq_of 29) l) × (take (n + length l) vs' ≡ take n vs ++ map value_of l)
 
 -- the number of them is no more than a usize holds, or than the buffers have places
-abbrev pub Room : Pass → ℕ → List (Entry Float) → List ℕ → List Float → Type 0
-Room Pass.Count n l zs vs = n + length l < 2 ^ 64
-Room Pass.Write n l zs vs = (n + length l ≤ length zs) × (n + length l ≤ length vs)
+abbrev pub Room : Aim → ℕ → List (Entry Float) → List ℕ → List Float → Type 0
+Room Aim.Count n l zs vs = n + length l < 2 ^ 64
+Room Aim.Write n l zs vs = (n + length l ≤ length zs) × (n + length l ≤ length vs)
 
 -- what it takes to cut the piece from a to b behind n others: room for its cells, as far as it is cut
-abbrev pub CanCut : Pass → ℕ → ℕ → ℕ → Float → List ℕ → List Float → Type 0
-CanCut pass n a b v zs vs = (p : ℕ) (l : List (Entry Float)) → Cut 29 a b v p l → Room pass n l zs vs
+abbrev pub CanCut : Aim → ℕ → ℕ → ℕ → Float → List ℕ → List Float → Type 0
+CanCut aim n a b v zs vs = (p : ℕ) (l : List (Entry Float)) → Cut 29 a b v p l → Room aim n l zs vs
 
 -- and what that leaves: it is cut up to its end, and r is the new number
-pub record IsCut (pass : Pass) (n a b : ℕ) (v : Float) (zs : List ℕ) (vs : List Float) (r : ℕ) (zs' : List ℕ) (vs' : List Float) : Type 0 where
+pub record IsCut (aim : Aim) (n a b : ℕ) (v : Float) (zs : List ℕ) (vs : List Float) (r : ℕ) (zs' : List ℕ) (vs' : List Float) : Type 0 where
   pub cells : List (Entry Float)
   pub place : ℕ
   pub cut : Cut 29 a b v place cells
   pub done : b ≤ place
   pub number : r ≡ n + length cells
-  pub outcome : Outcome pass n cells zs vs zs' vs'
+  pub taken : Taken aim n cells zs vs zs' vs'
 
 -- what it takes to keep one more cell behind n others
-abbrev pub CanKeep : Pass → ℕ → List ℕ → List Float → Type 0
-CanKeep Pass.Count n zs vs = n + 1 < 2 ^ 64
-CanKeep Pass.Write n zs vs = (n < length zs) × (n < length vs)
+abbrev pub CanKeep : Aim → ℕ → List ℕ → List Float → Type 0
+CanKeep Aim.Count n zs vs = n + 1 < 2 ^ 64
+CanKeep Aim.Write n zs vs = (n < length zs) × (n < length vs)
 
 -- and what that leaves
-abbrev pub Kept : Pass → ℕ → ℕ → Float → List ℕ → List Float → List ℕ → List Float → Type 0
-Kept Pass.Count n z v zs vs zs' vs' = (zs' ≡ zs) × (vs' ≡ vs)
-Kept Pass.Write n z v zs vs zs' vs' = (zs' ≡ set zs n z) × (vs' ≡ set vs n v)
+abbrev pub Kept : Aim → ℕ → ℕ → Float → List ℕ → List Float → List ℕ → List Float → Type 0
+Kept Aim.Count n z v zs vs zs' vs' = (zs' ≡ zs) × (vs' ≡ vs)
+Kept Aim.Write n z v zs vs zs' vs' = (zs' ≡ set zs n z) × (vs' ≡ set vs n v)

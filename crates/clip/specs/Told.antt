@@ -1,9 +1,9 @@
 -- What clipping tells: the scope's number and place, or the value.
-use Rattle.std.specs.Prelude.{ℕ}
+use Rattle.std.specs.Prelude.{ℕ, Result, Ok, Err}
 use Rattle.refusal.specs.Told.{Told, refused_by}
-use Rattle.clip.specs.declared.Clipped.{Clipped}
+use Rattle.refusal.specs.declared.Refusal.{Refusal}
 
 -- "Both answer the number of cells or ranges"
-abbrev pub told_clipped : Clipped → Told ℕ
-told_clipped (Clipped.Cells n) = Told.answer n
-told_clipped (Clipped.Refused r) = refused_by r
+abbrev pub told_clipped : Result ℕ Refusal → Told ℕ
+told_clipped (Ok n) = Told.answer n
+told_clipped (Err r) = refused_by r

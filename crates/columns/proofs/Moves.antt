@@ -11,37 +11,32 @@ use lib.Dec.{eqb}
 use lib.ListN.{length, get_or, set, length-set}
 use lib.Seq.{get_or-set_same, get_or-set_other}
 use borrow.Author.Tests.{eqb-true, eqb-false}
-use Rattle.columns.specs.Turning.{Part, Has, Put}
-
--- so far a loop has put these values, in a buffer that is as long as it was
-pub record Turning (at value : ℕ → ℕ → ℕ) (P : ℕ → ℕ → Type 0) (before after : List ℕ) : Type 0 where
-  pub long : length after ≡ length before
-  pub moved : Put at value P before after
+use Rattle.columns.specs.Turning.{Part, HasValues, Put}
 
 module _ {at value : ℕ → ℕ → ℕ} where
   -- ---- any parts
 
   -- Where there is nothing to move, nothing is touched.
   moved_none : {P : ℕ → ℕ → Type 0} {x : List ℕ} → ((i j : ℕ) → P i j → ⊥) → Put at value P x x
-  unfolding Has
+  unfolding HasValues
   moved_none none = record { there = λ goal g i j p. absurd (none i j p); kept = λ goal g p e. e }
 
   -- Two parts, one after the other.
   moved_both : {P Q R : ℕ → ℕ → Type 0} {x y z : List ℕ} → Put at value P x y → Put at value Q y z
       → ((i j : ℕ) → P i j → R i j) → ((i j : ℕ) → Q i j → R i j) → ((i j : ℕ) → R i j → P i j ⊎ Q i j) → Put at value R x z
-  unfolding Has
+  unfolding HasValues
   moved_both {P} {Q} {R} {x} {y} {z} a b p q either =
       record {
         there = λ goal g i j r.
-            let gp : Has at value P goal = λ i j h. g i j (p i j h) in
-            let gq : Has at value Q goal = λ i j h. g i j (q i j h) in
+            let gp : HasValues at value P goal = λ i j h. g i j (p i j h) in
+            let gq : HasValues at value Q goal = λ i j h. g i j (q i j h) in
             ⊎_elim (λ h. b.kept goal gq (at i j) (a.there goal gp i j h ∙ sym (gp i j h)) ∙ gp i j h) (b.there goal gq i j) (either i j r);
         kept = λ goal g s e. b.kept goal (λ i j h. g i j (q i j h)) s (a.kept goal (λ i j h. g i j (p i j h)) s e);
       }
 
   -- One byte, by one store.
   pub moved_one : {x : List ℕ} (r c : ℕ) → at r c < length x → Put at value (Part r (suc r) c (suc c)) x (set x (at r c) (value r c))
-  unfolding Has
+  unfolding HasValues
   moved_one {x} r c l =
       let v = value r c in
       let t = at r c in
@@ -91,42 +86,26 @@ module _ {at value : ℕ → ℕ → ℕ} where
       let three = more_columns (omega arith) (omega arith) two (moved_one {x = z} r 2 (simp length-set (inside 2 (omega arith)))) in
       more_columns (omega arith) (omega arith) three (moved_one {x = set z (at r 2) (value r 2)} r 3 (simp length-set (inside 3 (omega arith))))
 
-  -- ---- the loops
-
   -- The store of one byte puts one row more of a column.
   pub next_row : {m r c t v : ℕ} {x y : List ℕ} → m ≤ r → t < length y → t ≡ at r c → v ≡ value r c
-      → Turning at value (Part m r c (suc c)) x y → Turning at value (Part m (r + 1) c (suc c)) x (set y t v)
-  next_row {m} {r} {c} {t} {v} {x} {y} l inside f g so_far =
-      record {
-        long = length-set y t v ∙ so_far.long;
-        moved = rw (add-one r, f, g) (more_rows l (omega arith) so_far.moved (moved_one r c (rw f at inside)));
-      }
-
-  -- Four columns more of the rows of a block.
-  pub next_columns : {m n c : ℕ} {x y z : List ℕ} → length z ≡ length y → Turning at value (Part m n 0 c) x y → Put at value (Part m n c (c + 4)) y z
-      → Turning at value (Part m n 0 (c + 4)) x z
-  next_columns same so_far more = record { long = same ∙ so_far.long; moved = more_columns (omega arith) (omega arith) so_far.moved more }
-
-  -- The rows of one block more.
-  pub next_block : {r e b : ℕ} {x y z : List ℕ} → r ≤ e → length z ≡ length y → Turning at value (Part 0 r 0 b) x y → Put at value (Part r e 0 b) y z
-      → Turning at value (Part 0 e 0 b) x z
-  next_block l same so_far more = record { long = same ∙ so_far.long; moved = more_rows (omega arith) l so_far.moved more }
+      → Put at value (Part m r c (suc c)) x y → Put at value (Part m (r + 1) c (suc c)) x (set y t v)
+  next_row {m} {r} {c} {t} {v} {x} {y} l inside f g so_far = rw (add-one r, f, g) (more_rows l (omega arith) so_far (moved_one r c (rw f at inside)))
 
 -- ---- said otherwise
 
 -- The same values at the same places.
 pub same_values : {at value at' value' : ℕ → ℕ → ℕ} {P : ℕ → ℕ → Type 0} {x y : List ℕ}
     → ((i j : ℕ) → P i j → at' i j ≡ at i j) → ((i j : ℕ) → P i j → value' i j ≡ value i j) → Put at value P x y → Put at' value' P x y
-unfolding Has
+unfolding HasValues
 same_values {at} {value} {at'} {value'} {P} same_at same_value put =
-    let has : (goal : List ℕ) → Has at' value' P goal → Has at value P goal = λ goal g i j p. rw (same_at i j p, same_value i j p) at (g i j p) in
+    let has : (goal : List ℕ) → HasValues at' value' P goal → HasValues at value P goal = λ goal g i j p. rw (same_at i j p, same_value i j p) at (g i j p) in
     record { there = λ goal g i j p. rw (same_at i j p, same_value i j p) (put.there goal (has goal g) i j p); kept = λ goal g. put.kept goal (has goal g) }
 
 -- The same values at the same places, with rows counted from m and columns from a.
 pub counted_from : {at value at' value' : ℕ → ℕ → ℕ} {n b : ℕ} {x y : List ℕ} (m a : ℕ)
     → ((i j : ℕ) → i < n → j < b → at' (m + i) (a + j) ≡ at i j) → ((i j : ℕ) → i < n → j < b → value' (m + i) (a + j) ≡ value i j)
     → Put at value (Part 0 n 0 b) x y → Put at' value' (Part m (m + n) a (a + b)) x y
-unfolding Has
+unfolding HasValues
 counted_from {at} {value} {at'} {value'} {n} {b} {x} {y} m a same_at same_value put =
     record { there = λ goal g i j p. back goal g i j p (i - m) (j - a) (omega arith) (omega arith); kept = λ goal g. put.kept goal (has goal g) }
   where

@@ -1,17 +1,17 @@
 -- Words of four bytes: read, taken apart, and put. Assumes nothing.
 use mathlib.Core.Path.{◌≡◌, refl, ap, sym, ◌∙◌}
-use mathlib.Core.List.{List, ◌++◌}
-use Prim.Native.Nat.{ℕ, zero, suc, ◌+◌, ◌*◌, ◌/◌, ◌%◌, ◌^◌, ◌≤◌, ◌<◌}
+use mathlib.Core.List.{List}
+use Prim.Native.Nat.{ℕ, zero, suc, ◌+◌, ◌*◌, ◌/◌, ◌%◌, ◌^◌, ◌<◌}
 use native.Mathlib.Decide.{dec_le}
 use native.Mathlib.Nat.{add-zero, zero-add}
 use native.Mathlib.Numerals.{add-one}
 use native.Mathlib.Omega.{arith}
-use lib.ListN.{length, get_or, take, set, length-append, length-set}
-use lib.Seq.{length-take-le, take_at, get_or-set_same, get_or-set_other}
+use lib.ListN.{length, get_or, set}
+use lib.Seq.{get_or-set_same, get_or-set_other}
 use Rattle.rows.specs.LittleEndian.{from_le_bytes, to_le_bytes, put}
 use Rattle.rows.proofs.Put.{put_four}
 use Rattle.columns.specs.Turning.{Part, Put, Words, word_of, byte_of}
-use Rattle.columns.proofs.Moves.{Turning, more_rows, more_columns, four_stores, same_values, counted_from}
+use Rattle.columns.proofs.Moves.{more_rows, more_columns, four_stores, same_values, counted_from}
 
 -- ---- the bytes of a word
 
@@ -45,54 +45,26 @@ module _ {at : ℕ → ℕ → ℕ} {source : List ℕ} where
 
 -- The four bytes of a word more.
 pub next_word_put : (words : List ℕ) (to step i : ℕ) (x y z : List ℕ) → ((c : ℕ) → c < 4 → to + i * step + c < length y)
-    → Turning (λ r c. to + r * step + c) (λ r c. byte_of (get_or words r 0) c) (Part 0 i 0 4) x y → z ≡ put (to + i * step) (to_le_bytes 4 (get_or words i 0)) y
-    → Turning (λ r c. to + r * step + c) (λ r c. byte_of (get_or words r 0) c) (Part 0 (i + 1) 0 4) x z
+    → Put (λ r c. to + r * step + c) (λ r c. byte_of (get_or words r 0) c) (Part 0 i 0 4) x y → z ≡ put (to + i * step) (to_le_bytes 4 (get_or words i 0)) y
+    → Put (λ r c. to + r * step + c) (λ r c. byte_of (get_or words r 0) c) (Part 0 (i + 1) 0 4) x z
 unfolding to_le_bytes byte_of
 next_word_put words to step i x y z inside so_far e =
     let t = to + i * step in
     let four = four_stores {at = λ r c. to + r * step + c} {value = λ r c. byte_of (get_or words r 0) c} y i inside in
     let stores = put_four t _ _ _ _ y (omega (arith, inside 3 (omega arith))) in
-    record {
-      long = ap length (e ∙ sym stores) ∙ simp length-set so_far.long;
-      moved = more_rows (omega arith) (omega arith) so_far.moved (rw (e ∙ sym stores, add-one i) (rw (add-zero t) at four));
-    }
+    more_rows (omega arith) (omega arith) so_far (rw (e ∙ sym stores, add-one i) (rw (add-zero t) at four))
 
--- ---- the words of a block, in front of an array
+-- Words that are read in one layout and put in the other: what was put are the bytes of the source.
+module _ (source words : List ℕ) (n m : ℕ) (low : (p : ℕ) → get_or source p 0 < 256) (all : m ≡ n) (long : length words ≡ m) where
+  bytes_are : (at : ℕ → ℕ → ℕ) → Words at source m words → (i c : ℕ) → i < m → c < 4 → byte_of (get_or words i 0) c ≡ get_or source (at i c) 0
+  bytes_are at are i c h l = ap (λ (w : ℕ). byte_of w c) (are.each i h) ∙ byte_of-word (λ c. get_or source (at i c) 0) (λ c. low (at i c)) c l
 
-module _ (array words : List ℕ) (n : ℕ) (h : n ≤ length array) (same : length words ≡ length (take n array)) where
-  -- there are n of them
-  pub block_long : length words ≡ n
-  block_long = same ∙ length-take-le n array h
-
-  -- and they are the front of the array that they were read into
-  pub block_front : (rest : List ℕ) → take n (words ++ rest) ≡ words
-  block_front rest = take_at words rest n block_long
-
-  pub block_in : (rest : List ℕ) → n ≤ length (words ++ rest)
-  block_in rest = rw (length-append words rest, block_long) (omega arith)
-
-  pub block_is : (rest : List ℕ) → n ≡ length (take n (words ++ rest))
-  block_is rest = sym (length-take-le n (words ++ rest) (block_in rest))
-
-  pub block_some : (rest : List ℕ) → 0 < n → 0 < length (take n (words ++ rest))
-  block_some rest l = rw (← block_is rest) l
-
--- Words that are read from rows and written byte by byte, or the other way round: what was put are the bytes of the source.
-module _ (source words front : List ℕ) (at : ℕ → ℕ → ℕ) (n : ℕ) (low : (p : ℕ) → get_or source p 0 < 256) (e : front ≡ words) (long : length words ≡ n) (are : Words at source n words) where
-  bytes_are : (i c : ℕ) → i < n → c < 4 → byte_of (get_or words i 0) c ≡ get_or source (at i c) 0
-  bytes_are i c h l = ap (λ (w : ℕ). byte_of w c) (are.each i h) ∙ byte_of-word (λ c. get_or source (at i c) 0) (λ c. low (at i c)) c l
-
-  pub words_put : (to : ℕ → ℕ → ℕ) (x y : List ℕ) → Put to (λ i c. byte_of (get_or front i 0) c) (Part 0 (length front) 0 4) x y → Put to (λ i c. get_or source (at i c) 0) (Part 0 n 0 4) x y
-  words_put to x y put = same_values (λ i c p. refl) (λ i c p. sym (bytes_are i c p.row_to p.column_to)) (rw (e, long) at put)
-
--- The words that were read into the front of an array, put from there.
-module _ (source array words rest : List ℕ) (n : ℕ) (low : (p : ℕ) → get_or source p 0 < 256) (h : n ≤ length array) (same : length words ≡ length (take n array)) where
-  pub block_put : (at at' to : ℕ → ℕ → ℕ) (x y : List ℕ) → ((i c : ℕ) → at' i c ≡ at i c) → Words at source (length (take n array)) words
-      → Put to (λ i c. byte_of (get_or (take n (words ++ rest)) i 0) c) (Part 0 (length (take n (words ++ rest))) 0 4) x y
-      → Put to (λ i c. get_or source (at' i c) 0) (Part 0 n 0 4) x y
-  block_put at at' to x y e are put =
-      let all = words_put source words (take n (words ++ rest)) at n low (block_front array words n h same rest) (block_long array words n h same) (rw (length-take-le n array h) at are) to x y put in
-      same_values (λ i c p. refl) (λ i c p. ap (λ (q : ℕ). get_or source q 0) (e i c)) all
+  pub words_put : (at at' to : ℕ → ℕ → ℕ) (x y : List ℕ) → ((i c : ℕ) → at' i c ≡ at i c) → Words at source m words
+      → Put to (λ i c. byte_of (get_or words i 0) c) (Part 0 (length words) 0 4) x y → Put to (λ i c. get_or source (at' i c) 0) (Part 0 n 0 4) x y
+  words_put at at' to x y e are put =
+      same_values (λ i c p. refl)
+      (λ i c p. ap (λ (q : ℕ). get_or source q 0) (e i c) ∙ sym (bytes_are at are i c (rw all p.row_to) p.column_to))
+      (rw (long, all) at put)
 
 -- ---- byte by byte
 

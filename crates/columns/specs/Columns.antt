@@ -1,8 +1,7 @@
 -- Note 3 of document 02: rows laid out by byte column, and the way back. The row length k is left open, and so is the number of
 -- rows n; only what is refused names 8, 12 and 16.
-use Rattle.std.specs.Prelude.{Bool, not, ◌||◌, cond, List, [], ◌∷◌, ◌++◌, ℕ, zero, suc, ◌+◌, ◌*◌, ◌/◌, ◌%◌, eqb, ltb, length, get_or, drop}
+use Rattle.std.specs.Prelude.{Result, Ok, Err, Bool, not, ◌||◌, cond, List, [], ◌∷◌, ◌++◌, ℕ, zero, suc, ◌+◌, ◌*◌, ◌/◌, ◌%◌, eqb, ltb, length, get_or, drop}
 use Rattle.refusal.specs.declared.Refusal.{Refusal}
-use Rattle.rows.specs.declared.Rows.{Rows}
 
 -- ---- the layout
 
@@ -31,23 +30,23 @@ unfoldable pub named : ℕ → Bool
 named k = eqb k 8 || (eqb k 12 || eqb k 16)
 
 -- "An uneven length, or a row length not named here, is number 4; an output shorter than the input is 11"; else "the number of rows"
-unfoldable pub rows_to_lay : ℕ → ℕ → ℕ → Rows
+unfoldable pub rows_to_lay : ℕ → ℕ → ℕ → Result ℕ Refusal
 rows_to_lay k bytes space =
-    cond (not (named k)) (Rows.Refused Refusal.LengthMismatch)
-    (cond (not (eqb (bytes % k) 0)) (Rows.Refused Refusal.LengthMismatch)
-    (cond (ltb space bytes) (Rows.Refused Refusal.NoSpace)
-    (Rows.Rows (bytes / k))))
+    cond (not (named k)) (Err Refusal.LengthMismatch)
+    (cond (not (eqb (bytes % k) 0)) (Err Refusal.LengthMismatch)
+    (cond (ltb space bytes) (Err Refusal.NoSpace)
+    (Ok (bytes / k))))
 
 -- ---- the calls: the answer, with what they leave in the output
 
 -- "answers the number of rows and touches nothing past the rows"; after a refusal "all lent memory stays"
-unfoldable pub laid : Rows → (ℕ → List ℕ) → List ℕ → Rows × List ℕ
-laid (Rows.Rows n) bytes output = (Rows.Rows n, bytes n ++ drop (length (bytes n)) output)
-laid (Rows.Refused r) bytes output = (Rows.Refused r, output)
+unfoldable pub laid : Result ℕ Refusal → (ℕ → List ℕ) → List ℕ → Result ℕ Refusal × List ℕ
+laid (Ok n) bytes output = (Ok n, bytes n ++ drop (length (bytes n)) output)
+laid (Err r) bytes output = (Err r, output)
 
 -- "It works from one lent buffer into another"
-unfoldable pub rows_to_columns : ℕ → List ℕ → List ℕ → Rows × List ℕ
+unfoldable pub rows_to_columns : ℕ → List ℕ → List ℕ → Result ℕ Refusal × List ℕ
 rows_to_columns k rows output = laid (rows_to_lay k (length rows) (length output)) (λ n. by_column k n rows) output
 
-unfoldable pub columns_to_rows : ℕ → List ℕ → List ℕ → Rows × List ℕ
+unfoldable pub columns_to_rows : ℕ → List ℕ → List ℕ → Result ℕ Refusal × List ℕ
 columns_to_rows k columns output = laid (rows_to_lay k (length columns) (length output)) (λ n. by_row k n columns) output

@@ -15,56 +15,53 @@ ghost use Rattle.std.specs.Prelude.{◌≡◌};
 ghost use Rattle.columns.specs.Columns.{rows_to_lay, rows_to_columns, columns_to_rows};
 
 use refusal::Refusal;
-use rows::Rows;
 
-mod layout;
+mod direction;
 mod turning;
 mod words;
 
-use layout::Layout;
+use direction::{Shape, ToColumns, ToRows};
 use turning::turn;
 
-pub fn rows_to_columns(row_size: usize, rows: &[u8], columns: &mut [u8]) -> Rows
+pub fn rows_to_columns(row_size: usize, rows: &[u8], columns: &mut [u8]) -> Result<usize, Refusal>
     ensures { (result, columns.new) ≡ rows_to_columns row_size rows.now columns.old }
 {
-    let answer = rows_to_lay(row_size, rows.len(), columns.len());
-    let Rows::Rows(number) = answer else {
-        return answer;
+    let number = rows_to_lay(row_size, rows.len(), columns.len())?;
+    let shape = Shape {
+        rows: number,
+        row_size,
     };
-    let by_row = Layout::of_rows(row_size);
-    let by_column = Layout::of_columns(number);
-    turn(rows, by_row, columns, by_column, number, row_size);
-    answer
+    turn::<ToColumns>(shape, rows, columns);
+    Ok(number)
 }
 
-pub fn columns_to_rows(row_size: usize, columns: &[u8], rows: &mut [u8]) -> Rows
+pub fn columns_to_rows(row_size: usize, columns: &[u8], rows: &mut [u8]) -> Result<usize, Refusal>
     ensures { (result, rows.new) ≡ columns_to_rows row_size columns.now rows.old }
 {
-    let answer = rows_to_lay(row_size, columns.len(), rows.len());
-    let Rows::Rows(number) = answer else {
-        return answer;
+    let number = rows_to_lay(row_size, columns.len(), rows.len())?;
+    let shape = Shape {
+        rows: number,
+        row_size,
     };
-    let by_row = Layout::of_rows(row_size);
-    let by_column = Layout::of_columns(number);
-    turn(columns, by_column, rows, by_row, number, row_size);
-    answer
+    turn::<ToRows>(shape, columns, rows);
+    Ok(number)
 }
 
 // How many rows of this size a number of bytes is, where there is space for all of them.
-#[tactic(auto, using(crate::proofs::Laid::answers))]
-fn rows_to_lay(row_size: usize, bytes: usize, space: usize) -> Rows
+#[tactic(auto, unfolding(crate::specs::Columns::rows_to_lay, crate::specs::Columns::named))]
+fn rows_to_lay(row_size: usize, bytes: usize, space: usize) -> Result<usize, Refusal>
     ensures { result ≡ rows_to_lay row_size bytes space }
 {
     match row_size {
         8 | 12 | 16 => {
             if bytes % row_size != 0 {
-                return Rows::Refused(Refusal::LengthMismatch);
+                return Err(Refusal::LengthMismatch);
             }
             if space < bytes {
-                return Rows::Refused(Refusal::NoSpace);
+                return Err(Refusal::NoSpace);
             }
-            Rows::Rows(bytes / row_size)
+            Ok(bytes / row_size)
         }
-        _ => Rows::Refused(Refusal::LengthMismatch),
+        _ => Err(Refusal::LengthMismatch),
     }
 }

@@ -1,82 +1,30 @@
 // Moving the bytes of rows from one layout to the other.
 ghost use Rattle.std.specs.Prelude.{◌≡◌, ◌+◌, ◌%◌, ◌≤◌, ◌<◌, length};
-ghost use Rattle.columns.specs.Turning.{Inside, Across, Part, Moved};
+ghost use Rattle.columns.specs.Turning.{Inside, Part, Turned};
 
-use crate::layout::Layout;
-use crate::words::{BLOCK, columns_of_words, rows_of_words};
+use crate::direction::{Direction, Shape};
+use crate::words::BLOCK;
 
 // Rows are moved in blocks, and a block four columns at a time. So each byte column is read or written
 // in order, the rows of a block stay in the nearest cache until their last byte is moved, and columns
 // that stand a power of two apart do not drive each other out of it.
-pub(crate) fn turn(
-    source: &[u8],
-    from: Layout,
-    target: &mut [u8],
-    to: Layout,
-    rows: usize,
-    row_size: usize,
-)
-    requires { Across from to × (row_size % 4 ≡ 0) × Inside from rows row_size (length source.now) × Inside to rows row_size (length target.old) }
-    ensures { Moved from to source.now (Part 0 rows 0 row_size) target.old target.new }
+pub(crate) fn turn<D: Direction>(shape: Shape, source: &[u8], target: &mut [u8])
+    requires { (shape.row_size % 4 ≡ 0) × Inside (D.from shape) shape.rows shape.row_size (length source.now) × Inside (D.to shape) shape.rows shape.row_size (length target.old) }
+    ensures { Turned (D.from shape) (D.to shape) source.now (Part 0 shape.rows 0 shape.row_size) target.old target.new }
 {
-    let mut row = 0;
-    while row < rows {
-        let end = block_end(row, rows);
-        turn_block(source, from, target, to, row, end, row_size);
-        row = end;
+    for block in 0..shape.rows.div_ceil(BLOCK) {
+        let row = block * BLOCK;
+        let end = row + BLOCK.min(shape.rows - row);
+        turn_block::<D>(shape, source, target, row, end);
     }
-}
-
-// The row behind the block that starts here.
-fn block_end(row: usize, rows: usize) -> usize
-    requires { row < rows }
-    ensures { (row < result) × (result ≤ rows) × (result ≤ row + 64) }
-{
-    if rows - row < BLOCK {
-        return rows;
-    }
-    row + BLOCK
 }
 
 // The rows of a block.
-fn turn_block(
-    source: &[u8],
-    from: Layout,
-    target: &mut [u8],
-    to: Layout,
-    row: usize,
-    end: usize,
-    row_size: usize,
-)
-    requires { Across from to × (row_size % 4 ≡ 0) × (row < end) × (end ≤ row + 64) × Inside from end row_size (length source.now) × Inside to end row_size (length target.old) }
-    ensures { Moved from to source.now (Part row end 0 row_size) target.old target.new }
+fn turn_block<D: Direction>(shape: Shape, source: &[u8], target: &mut [u8], row: usize, end: usize)
+    requires { (shape.row_size % 4 ≡ 0) × (row < end) × (end ≤ row + 64) × Inside (D.from shape) end shape.row_size (length source.now) × Inside (D.to shape) end shape.row_size (length target.old) }
+    ensures { Turned (D.from shape) (D.to shape) source.now (Part row end 0 shape.row_size) target.old target.new }
 {
-    let mut column = 0;
-    while column < row_size {
-        turn_four(source, from, target, to, row, end, column);
-        column += 4;
-    }
-}
-
-// Four columns of a block. In columns the same byte of neighbouring rows is a neighbour: that tells
-// which way it goes.
-fn turn_four(
-    source: &[u8],
-    from: Layout,
-    target: &mut [u8],
-    to: Layout,
-    row: usize,
-    end: usize,
-    column: usize,
-)
-    requires { Across from to × (row < end) × (end ≤ row + 64) × Inside from end (column + 4) (length source.now) × Inside to end (column + 4) (length target.old) }
-    ensures { Moved from to source.now (Part row end column (column + 4)) target.old target.new }
-{
-    let at = from.place(row, column);
-    let to_at = to.place(row, column);
-    if to.row == 1 {
-        columns_of_words(source, at, from.row, target, to_at, to.column, end - row);
-    } else {
-        rows_of_words(source, at, from.column, target, to_at, to.row, end - row);
+    for four in 0..shape.row_size / 4 {
+        D::turn_four(shape, source, target, row, end, 4 * four);
     }
 }

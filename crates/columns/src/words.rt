@@ -4,67 +4,35 @@
 ghost use Rattle.std.specs.Prelude.{ℕ, ◌+◌, ◌*◌, ◌/◌, ◌%◌, ◌^◌, ◌≤◌, ◌<◌, length, get_or};
 ghost use Rattle.columns.specs.Turning.{Part, Put, Words, byte_of};
 
-use rows::little_endian::{put_u32, u32_from_le_bytes};
+use rows::little_endian::LittleEndian;
 
 // The most rows of a block.
 pub(crate) const BLOCK: usize = 64;
 
-// From rows to columns: each byte of all words is a part of a column.
-pub(crate) fn columns_of_words(
-    source: &[u8],
-    at: usize,
-    row_size: usize,
-    target: &mut [u8],
-    to: usize,
-    rows: usize,
-    count: usize,
-)
-    requires { (0 < count) × (count ≤ 64) × ((i c : ℕ) → i < count → c < 4 → at + i * row_size + c < length source.now) × ((i c : ℕ) → i < count → c < 4 → to + i + c * rows < length target.old) }
-    ensures { Put (λ i c. to + i + c * rows) (λ i c. get_or source.now (at + i * row_size + c) 0) (Part 0 count 0 4) target.old target.new }
-{
-    let mut words = [0u32; BLOCK];
-    read_words(source, at, row_size, 1, &mut words[..count]);
-    write_columns(&words[..count], target, to, rows);
-}
-
-// From columns to rows: each word is a part of a row.
-pub(crate) fn rows_of_words(
-    source: &[u8],
-    at: usize,
-    rows: usize,
-    target: &mut [u8],
-    to: usize,
-    row_size: usize,
-    count: usize,
-)
-    requires { (0 < count) × (count ≤ 64) × ((i c : ℕ) → i < count → c < 4 → at + i + c * rows < length source.now) × ((i c : ℕ) → i < count → c < 4 → to + i * row_size + c < length target.old) }
-    ensures { Put (λ i c. to + i * row_size + c) (λ i c. get_or source.now (at + i + c * rows) 0) (Part 0 count 0 4) target.old target.new }
-{
-    let mut words = [0u32; BLOCK];
-    read_words(source, at, 1, rows, &mut words[..count]);
-    write_words(&words[..count], target, to, row_size);
-}
-
 // The words of rows, of bytes that stand `column_step` apart.
-fn read_words(source: &[u8], at: usize, row_step: usize, column_step: usize, words: &mut [u32])
+pub(crate) fn read_words(
+    source: &[u8],
+    at: usize,
+    row_step: usize,
+    column_step: usize,
+    words: &mut [u32],
+)
     requires { (i c : ℕ) → i < length words.old → c < 4 → at + i * row_step + c * column_step < length source.now }
     ensures { Words (λ i c. at + i * row_step + c * column_step) source.now (length words.old) words.new }
 {
-    let mut i = 0;
-    while i < words.len() {
+    for i in 0..words.len() {
         let first = at + i * row_step;
-        words[i] = u32_from_le_bytes(
+        words[i] = u32::from_le_bytes([
             source[first],
             source[first + column_step],
             source[first + 2 * column_step],
             source[first + 3 * column_step],
-        );
-        i += 1;
+        ]);
     }
 }
 
 // The bytes of each word, a column apart.
-fn write_columns(words: &[u32], target: &mut [u8], to: usize, rows: usize)
+pub(crate) fn write_columns(words: &[u32], target: &mut [u8], to: usize, rows: usize)
     requires { (0 < length words.now) × ((i c : ℕ) → i < length words.now → c < 4 → to + i + c * rows < length target.old) }
     ensures { Put (λ i c. to + i + c * rows) (λ i c. byte_of (get_or words.now i 0) c) (Part 0 (length words.now) 0 4) target.old target.new }
 {
@@ -79,21 +47,17 @@ fn write_bytes(words: &[u32], shift: u32, target: &mut [u8], to: usize)
     requires { (shift < 32) × (to + length words.now ≤ length target.old) }
     ensures { Put (λ i c. to + i) (λ i c. get_or words.now i 0 / 2 ^ shift % 256) (Part 0 (length words.now) 0 1) target.old target.new }
 {
-    let mut i = 0;
-    while i < words.len() {
-        target[to + i] = ((words[i] >> shift) % 0x100) as u8;
-        i += 1;
+    for (i, word) in words.iter().enumerate() {
+        target[to + i] = ((word >> shift) % 0x100) as u8;
     }
 }
 
 // The bytes of each word, a row apart.
-fn write_words(words: &[u32], target: &mut [u8], to: usize, step: usize)
+pub(crate) fn write_words(words: &[u32], target: &mut [u8], to: usize, step: usize)
     requires { (i c : ℕ) → i < length words.now → c < 4 → to + i * step + c < length target.old }
     ensures { Put (λ i c. to + i * step + c) (λ i c. byte_of (get_or words.now i 0) c) (Part 0 (length words.now) 0 4) target.old target.new }
 {
-    let mut i = 0;
-    while i < words.len() {
-        put_u32(target, to + i * step, words[i]);
-        i += 1;
+    for (i, word) in words.iter().enumerate() {
+        word.write(target, to + i * step);
     }
 }

@@ -1,5 +1,6 @@
 -- Asking for a pool and committing it: what the two calls may rely on and what they answer, that a pool is an ask followed by its commit,
 -- and what the figures of an ask are good for. Assumes nothing.
+use Rattle.std.specs.Prelude.{Result, Ok, Err}
 use mathlib.Core.Path.{◌≡◌, refl, ap, ap₂, sym, ◌∙◌}
 use mathlib.Core.Bool.{Bool, true, false}
 use mathlib.Core.List.{List, []}
@@ -13,29 +14,26 @@ use lib.ListN.{length, length-reverse}
 use borrow.Author.Tests.{lt-ltb, le-ltb, eqb-true, eq-eqb, not-false}
 use Rattle.zuniq.proofs.Basics.{and_is_true}
 use Rattle.refusal.specs.declared.Refusal.{Refusal}
-use Rattle.refusal.proofs.Checks.{or_else_none, refused_if-none}
+use Rattle.refusal.proofs.Checks.{passed_of_ok, some_of_err, or_else_none, refused_if-none}
 use Rattle.protection.specs.Protected.{RisingList}
 use Rattle.merger.specs.Merge.{accept_counts}
 use Rattle.merger.proofs.Accept.{accepted_count_is_sum}
 use Rattle.build.specs.Map.{Merger}
 use Rattle.build.specs.Stack.{run}
 use Rattle.build.specs.Add.{sum_of}
-use Rattle.build.specs.Counts.{total_of, total_or}
-use Rattle.build.specs.declared.counts.Total.{Total}
-use Rattle.build.specs.declared.counts.CountsAdded.{CountsAdded}
-use Rattle.build.proofs.Checking.{total_passed, total_refused}
+use Rattle.build.specs.Counts.{total_of}
+use Rattle.refusal.specs.Checks.{ok_unless}
+use Rattle.build.specs.declared.counts.Added.{Added}
 use Rattle.build.proofs.DefinedMap.{defined_map-length}
 use Rattle.build.proofs.Entries.{total-reverse}
 use Rattle.combine.specs.Overlay.{overlay}
 use Rattle.combine.specs.Rules.{kept, combined, split_count, pool_rule, defined_pool}
-use Rattle.combine.specs.Slices.{Holds}
 use Rattle.combine.specs.Counts.{pool_cells}
 use Rattle.combine.specs.Pool.{Given, entries, result_depth, pairs_refusal, maps_refusal, places_refusal, pool_kept, pool_input_refusal, pool_refusal, pool_over, pool_counts}
-use Rattle.combine.specs.Ask.{ask_refusal, figures_of, asked_or, ask_counts, same_figures, figures_refusal, commit_refusal, commit_counts, committed}
-use Rattle.combine.specs.declared.counts.Asked.{Asked}
+use Rattle.combine.specs.Ask.{ask_refusal, figures_of, ask_counts, same_figures, figures_refusal, commit_refusal, commit_counts, committed}
 use Rattle.combine.specs.declared.counts.Figures.{Figures}
 use Rattle.combine.proofs.Kept.{run-gives_combined, kept-overlay_rises, pool_keeps_length, pool_swap, pool_total}
-use Rattle.combine.proofs.Passed.{Passed, left_rises, right_rises, passed_holds, kept-deeper, combined-deeper}
+use Rattle.combine.proofs.Passed.{Passed, left_rises, right_rises, kept-deeper, combined-deeper}
 use Rattle.combine.proofs.PoolCall.{pool_input_passes, pool_input_swapped, pool_cells_swapped, Passed-total, pool_refused, pool_done}
 
 -- ---- figures
@@ -91,36 +89,17 @@ module _ (P : List ℕ) (l r : Given ℕ) (M : ℕ) (T : Float) (places values :
   figures_found : found_figures P l r M T (sum_of l.values + sum_of r.values) ≡ figures_of P l r M T
   figures_found = λ i. record { cells = cells_found i; entries = entries-found i; total = total_found i }
 
-  -- The maps can be walked.
-  walkable : Holds l.zuniqs l.values × Holds r.zuniqs r.values × (total_of (entries l) + total_of (entries r) ≡ sum_of l.values + sum_of r.values) × RisingList P
-  walkable = let h = passed_holds l r _ _ pass in (h.0, h.1, Passed-total l r places values pass, (pool_input_passes P l r M T places values e).2)
+  -- The maps pass, and their counts are the total that the check answers.
+  pub asked_passed : Passed l r places values
+  asked_passed = pass
 
--- ---- what both calls ask: the refusals of the input, or the figures
-module _ (P : List ℕ) (l r : Given ℕ) (M : ℕ) (T : Float) (places values : ℕ) where
-  -- What the checks refuse is refused.
-  pub asked_refused : (x : Refusal) (n : ℕ) → total_or (pool_input_refusal P l r M T places values) n ≡ Total.Refused x → Asked.Refused x ≡ asked_or (pool_input_refusal P l r M T places values) (figures_of P l r M T)
-  asked_refused x n e = rw (total_refused (pool_input_refusal P l r M T places values) n x e) refl
+  module _ (sum : ℕ) (t : sum ≡ sum_of l.values + sum_of r.values) where
+    pub asked_total : total_of (entries l) + total_of (entries r) ≡ sum
+    asked_total = Passed-total l r places values pass ∙ sym t
 
-  module _ (sum : ℕ) (e : total_or (pool_input_refusal P l r M T places values) (sum_of l.values + sum_of r.values) ≡ Total.Sum sum) where
-    input_passed : (pool_input_refusal P l r M T places values ≡ none) × (sum_of l.values + sum_of r.values ≡ sum)
-    input_passed = total_passed (pool_input_refusal P l r M T places values) _ sum e
-
-    -- The maps can be walked,
-    pub asked_walkable : Holds l.zuniqs l.values × Holds r.zuniqs r.values × (total_of (entries l) + total_of (entries r) ≡ sum) × RisingList P
-    asked_walkable = let h = walkable P l r M T places values input_passed.0 in (h.0, h.1, h.2 ∙ input_passed.1, h.3)
-
-    -- and what the walk finds is answered.
-    pub asked_found : (f : Figures) → f ≡ found_figures P l r M T sum → Asked.Answer f ≡ asked_or (pool_input_refusal P l r M T places values) (figures_of P l r M T)
-    asked_found f q = rw input_passed.0 (ap Asked.Answer (q ∙ ap (found_figures P l r M T) (sym input_passed.1) ∙ figures_found P l r M T places values input_passed.0))
-
--- What is answered are the figures, of two maps that pass; and what is refused is what the checks refuse.
-answered_figures : (o : Option Refusal) (f g : Figures) → Asked.Answer f ≡ asked_or o g → (o ≡ none) × (f ≡ g)
-answered_figures none f g q = (refl, cc)
-answered_figures (some x) f g q = let z : ◌≡◌ {A = ℕ} 0 1 = cc in absurd (omega arith)
-
-answered_refusal : (o : Option Refusal) (x : Refusal) (g : Figures) → Asked.Refused x ≡ asked_or o g → o ≡ some x
-answered_refusal none x g q = let z : ◌≡◌ {A = ℕ} 0 1 = cc in absurd (omega arith)
-answered_refusal (some y) x g q = let z : x ≡ y = cc in ap some (sym z)
+    -- What the walk finds are the figures.
+    pub asked_found : (f : Figures) → f ≡ found_figures P l r M T sum → f ≡ figures_of P l r M T
+    asked_found f q = q ∙ ap (found_figures P l r M T) t ∙ figures_found
 
 -- ---- the call `commit`
 module _ (P : List ℕ) (l r : Given ℕ) (M : ℕ) (T : Float) (f : Figures) (zs vs : List ℕ) where
@@ -131,37 +110,26 @@ module _ (P : List ℕ) (l r : Given ℕ) (M : ℕ) (T : Float) (f : Figures) (z
 
   -- With others it is refused by 16, if by nothing that is tried before,
   other_differs : pool_input_refusal P l r M T (length zs) (length vs) ≡ none → same_figures f (figures_of P l r M T) ≡ false
-      → (CountsAdded.Refused Refusal.FiguresDiffer, zs, vs) ≡ commit_counts P l r M T f zs vs
+      → (Err Refusal.FiguresDiffer, zs, vs) ≡ commit_counts P l r M T f zs vs
   unfolding commit_counts commit_refusal figures_refusal pool_over
   other_differs e s = rw (e, s) refl
 
   -- and that is tried first.
-  input_refused : (x : Refusal) → pool_input_refusal P l r M T (length zs) (length vs) ≡ some x → (CountsAdded.Refused x, zs, vs) ≡ commit_counts P l r M T f zs vs
+  pub input_refused : (x : Refusal) → pool_input_refusal P l r M T (length zs) (length vs) ≡ some x → (Err x, zs, vs) ≡ commit_counts P l r M T f zs vs
   unfolding commit_counts commit_refusal pool_over
   input_refused x e = rw e refl
 
-  pub commit_refused : (x : Refusal) → Asked.Refused x ≡ asked_or (pool_input_refusal P l r M T (length zs) (length vs)) (figures_of P l r M T) → (CountsAdded.Refused x, zs, vs) ≡ commit_counts P l r M T f zs vs
-  commit_refused x a = input_refused x (answered_refusal (pool_input_refusal P l r M T (length zs) (length vs)) x (figures_of P l r M T) a)
-
   -- g is what was found: other figures are refused, and with these there is too little space, or the pool is made.
-  module _ (g : Figures) (a : Asked.Answer g ≡ asked_or (pool_input_refusal P l r M T (length zs) (length vs)) (figures_of P l r M T)) where
-    found : (pool_input_refusal P l r M T (length zs) (length vs) ≡ none) × (g ≡ figures_of P l r M T)
-    found = answered_figures (pool_input_refusal P l r M T (length zs) (length vs)) g (figures_of P l r M T) a
+  module _ (g : Figures) (e : pool_input_refusal P l r M T (length zs) (length vs) ≡ none) (a : g ≡ figures_of P l r M T) where
+    pub commit_differs : same_figures f g ≡ false → (Err Refusal.FiguresDiffer, zs, vs) ≡ commit_counts P l r M T f zs vs
+    commit_differs s = other_differs e (ap (same_figures f) (sym a) ∙ s)
 
-    pub commit_differs : same_figures f g ≡ false → (CountsAdded.Refused Refusal.FiguresDiffer, zs, vs) ≡ commit_counts P l r M T f zs vs
-    commit_differs s = other_differs found.0 (ap (same_figures f) (sym found.1) ∙ s)
+    pub commit_cells : g.cells ≡ length (pool_cells l.zuniqs l.values r.zuniqs r.values)
+    commit_cells = ap (λ (g : Figures). g.cells) a ∙ sym (cells_found P l r M T (length zs) (length vs) e)
 
-    pub commit_poolable : Holds l.zuniqs l.values × Holds r.zuniqs r.values × (total_of (entries l) + total_of (entries r) ≡ g.total) × (length zs ≡ length vs) × RisingList P
-        × (g.cells ≡ length (pool_cells l.zuniqs l.values r.zuniqs r.values))
-    commit_poolable =
-        let h = walkable P l r M T (length zs) (length vs) found.0 in
-        let total = h.2 ∙ total_found P l r M T (length zs) (length vs) found.0 ∙ sym (ap (λ (g : Figures). g.total) found.1) in
-        let cells = ap (λ (g : Figures). g.cells) found.1 ∙ sym (cells_found P l r M T (length zs) (length vs) found.0) in
-        (h.0, h.1, total, (pass P l r M T (length zs) (length vs) found.0).paired, h.3, cells)
-
-    pub commit_done : same_figures f g ≡ true → (made : CountsAdded × List ℕ × List ℕ)
+    pub commit_done : same_figures f g ≡ true → (made : Result Added Refusal × List ℕ × List ℕ)
         → made ≡ pool_over P 29 (places_refusal (length zs) (length (pool_cells l.zuniqs l.values r.zuniqs r.values))) (entries l) (entries r) M T zs vs → made ≡ commit_counts P l r M T f zs vs
-    commit_done s made q = pool_done P l r M T zs vs found.0 made q ∙ sym (same_is_pool (ap (same_figures f) (sym found.1) ∙ s))
+    commit_done s made q = pool_done P l r M T zs vs e made q ∙ sym (same_is_pool (ap (same_figures f) (sym a) ∙ s))
 
 -- ---- ask and commit
 module _ (P : List ℕ) (l r : Given ℕ) (M : ℕ) (T : Float) where
@@ -171,16 +139,16 @@ module _ (P : List ℕ) (l r : Given ℕ) (M : ℕ) (T : Float) where
   input_as_asked places values q = rw (eq-eqb places values q) refl
 
   -- An ask that is answered is not refused, and answers the figures.
-  pub answered_ask : (f : Figures) → ask_counts P l r M T ≡ Asked.Answer f → (ask_refusal P l r M T ≡ none) × (f ≡ figures_of P l r M T)
+  pub answered_ask : (f : Figures) → ask_counts P l r M T ≡ Ok f → (ask_refusal P l r M T ≡ none) × (f ≡ figures_of P l r M T)
   unfolding ask_counts
-  answered_ask f a = answered_figures (ask_refusal P l r M T) f (figures_of P l r M T) (sym a)
+  answered_ask f a = let p = passed_of_ok (ask_refusal P l r M T) (figures_of P l r M T) f a in (p.0, sym p.1)
 
   -- So its figures pass.
-  asked_same : (f : Figures) → ask_counts P l r M T ≡ Asked.Answer f → same_figures f (figures_of P l r M T) ≡ true
+  asked_same : (f : Figures) → ask_counts P l r M T ≡ Ok f → same_figures f (figures_of P l r M T) ≡ true
   asked_same f a = ap (same_figures f) (sym (answered_ask f a).1) ∙ same_as_itself f
 
   -- "Commit takes those figures with the same inputs and pools."
-  pub commit_of_asked : (f : Figures) (zs vs : List ℕ) → ask_counts P l r M T ≡ Asked.Answer f → commit_counts P l r M T f zs vs ≡ pool_counts P l r M T zs vs
+  pub commit_of_asked : (f : Figures) (zs vs : List ℕ) → ask_counts P l r M T ≡ Ok f → commit_counts P l r M T f zs vs ≡ pool_counts P l r M T zs vs
   commit_of_asked f zs vs a = same_is_pool P l r M T f zs vs (asked_same f a)
 
   -- "The old single call stays and, where its output buffers are of equal length, equals an ask followed by its commit, in its refusals too."
@@ -188,21 +156,21 @@ module _ (P : List ℕ) (l r : Given ℕ) (M : ℕ) (T : Float) where
   unfolding ask_counts
   pool_is_ask_then_commit zs vs q = go (ask_refusal P l r M T) refl
     where
-      go : (o : Option Refusal) → ask_refusal P l r M T ≡ o → pool_counts P l r M T zs vs ≡ committed P l r M T zs vs (asked_or o (figures_of P l r M T))
+      go : (o : Option Refusal) → ask_refusal P l r M T ≡ o → pool_counts P l r M T zs vs ≡ committed P l r M T zs vs (ok_unless o (figures_of P l r M T))
       go none e = sym (same_is_pool P l r M T (figures_of P l r M T) zs vs (same_as_itself (figures_of P l r M T)))
       go (some x) e = sym (pool_refused P l r M T zs vs x (input_as_asked (length zs) (length vs) q ∙ e))
 
   -- ---- other figures
   -- "16, the figures are not those an ask would answer": past the checks of the input, 16 lets the figures of an ask pass and no others.
-  pub figures_pass_iff : (f : Figures) → ask_refusal P l r M T ≡ none → (figures_refusal P l r M T f ≡ none) ↔ (ask_counts P l r M T ≡ Asked.Answer f)
+  pub figures_pass_iff : (f : Figures) → ask_refusal P l r M T ≡ none → (figures_refusal P l r M T f ≡ none) ↔ (ask_counts P l r M T ≡ Ok f)
   unfolding figures_refusal ask_counts
   figures_pass_iff f e = (
-    λ q. rw e (ap Asked.Answer (sym (same_figures_lem f (figures_of P l r M T) (not-false _ (refused_if-none _ _ q))))),
+    λ q. rw e (ap Ok (sym (same_figures_lem f (figures_of P l r M T) (not-false _ (refused_if-none _ _ q))))),
     λ a. rw (asked_same f a) refl,
   )
 
   -- A commit that is not refused was given the figures of an ask.
-  pub committed_is_asked : (f : Figures) (places values : ℕ) → commit_refusal P l r M T f places values ≡ none → ask_counts P l r M T ≡ Asked.Answer f
+  pub committed_is_asked : (f : Figures) (places values : ℕ) → commit_refusal P l r M T f places values ≡ none → ask_counts P l r M T ≡ Ok f
   unfolding commit_refusal
   committed_is_asked f places values e =
       let a = or_else_none (pool_input_refusal P l r M T places values) _ e in
@@ -219,11 +187,11 @@ module _ (P : List ℕ) (l r : Given ℕ) (M : ℕ) (T : Float) where
 
   -- Whatever the figures, a commit does what the pool does, or refuses by 16 and leaves the output.
   pub commit_is_pool_or_differs : (f : Figures) (zs vs : List ℕ)
-      → (commit_counts P l r M T f zs vs ≡ pool_counts P l r M T zs vs) ⊎ (commit_counts P l r M T f zs vs ≡ (CountsAdded.Refused Refusal.FiguresDiffer, zs, vs))
+      → (commit_counts P l r M T f zs vs ≡ pool_counts P l r M T zs vs) ⊎ (commit_counts P l r M T f zs vs ≡ (Err Refusal.FiguresDiffer, zs, vs))
   commit_is_pool_or_differs f zs vs = go (pool_input_refusal P l r M T (length zs) (length vs)) refl (same_figures f (figures_of P l r M T)) refl
     where
       go : (o : Option Refusal) → pool_input_refusal P l r M T (length zs) (length vs) ≡ o → (b : Bool) → same_figures f (figures_of P l r M T) ≡ b
-          → (commit_counts P l r M T f zs vs ≡ pool_counts P l r M T zs vs) ⊎ (commit_counts P l r M T f zs vs ≡ (CountsAdded.Refused Refusal.FiguresDiffer, zs, vs))
+          → (commit_counts P l r M T f zs vs ≡ pool_counts P l r M T zs vs) ⊎ (commit_counts P l r M T f zs vs ≡ (Err Refusal.FiguresDiffer, zs, vs))
       go (some x) e b s = inl (sym (input_refused P l r M T f zs vs x e) ∙ pool_refused P l r M T zs vs x e)
       go none e true s = inl (same_is_pool P l r M T f zs vs s)
       go none e false s = inr (sym (other_differs P l r M T f zs vs e s))
@@ -237,34 +205,34 @@ module _ (P : List ℕ) (l r : Given ℕ) (M : ℕ) (T : Float) where
       let o = overlay split_count K (entries l) (entries r) in
       omega (arith, defined_map-length (accept_counts 29 P M T) K (kept pool_rule o) (kept-overlay_rises pool_rule (accept_counts 29 P M T) split_count K (entries l) (entries r)), pool_keeps_length o)
 
-  pub figures_few : (f : Figures) → ask_counts P l r M T ≡ Asked.Answer f → f.entries ≤ f.cells
+  pub figures_few : (f : Figures) → ask_counts P l r M T ≡ Ok f → f.entries ≤ f.cells
   figures_few f a = rw (answered_ask f a).1 figures_few_of
 
   -- Space is judged by the number of overlay cells,
-  asked_space : (f : Figures) (places values : ℕ) → ask_counts P l r M T ≡ Asked.Answer f → places ≡ values → commit_refusal P l r M T f places values ≡ places_refusal places f.cells
+  asked_space : (f : Figures) (places values : ℕ) → ask_counts P l r M T ≡ Ok f → places ≡ values → commit_refusal P l r M T f places values ≡ places_refusal places f.cells
   unfolding commit_refusal figures_refusal figures_of
   asked_space f places values a q =
       let c : length (pool_kept l r) ≡ f.cells = pool_keeps_length (overlay split_count (result_depth l r) (entries l) (entries r)) ∙ sym (ap (λ (g : Figures). g.cells) (answered_ask f a).1) in
       rw (input_as_asked places values q, (answered_ask f a).0, asked_same f a, c) refl
 
   -- and what is made has the entries and the total that were asked for.
-  made_as_asked : (zs vs : List ℕ) → (pool_over P (result_depth l r) none (entries l) (entries r) M T zs vs).0 ≡ CountsAdded.Added (figures_of P l r M T).entries (figures_of P l r M T).total
+  made_as_asked : (zs vs : List ℕ) → (pool_over P (result_depth l r) none (entries l) (entries r) M T zs vs).0 ≡ Ok (record { entries = (figures_of P l r M T).entries; total = (figures_of P l r M T).total })
   unfolding pool_over figures_of
   made_as_asked zs vs =
       let pool = defined_pool (accept_counts 29 P M T) (result_depth l r) (entries l) (entries r) in
-      ap₂ CountsAdded.Added (length-reverse pool) (total-reverse (λ n. n) pool)
+      ap₂ (λ (n t : ℕ). Ok (record { entries = n; total = t })) (length-reverse pool) (total-reverse (λ n. n) pool)
 
   -- "Operators want the cost of a pool before they give up a buffer": buffers with as many places as cells were answered suffice,
-  pub asked_places_suffice : (f : Figures) (zs vs : List ℕ) → ask_counts P l r M T ≡ Asked.Answer f → length zs ≡ length vs → f.cells ≤ length zs
-      → (commit_counts P l r M T f zs vs).0 ≡ CountsAdded.Added f.entries f.total
+  pub asked_places_suffice : (f : Figures) (zs vs : List ℕ) → ask_counts P l r M T ≡ Ok f → length zs ≡ length vs → f.cells ≤ length zs
+      → (commit_counts P l r M T f zs vs).0 ≡ Ok (record { entries = f.entries; total = f.total })
   unfolding commit_counts places_refusal
   asked_places_suffice f zs vs a q u =
       rw (asked_space f (length zs) (length vs) a q, le-ltb (length zs) f.cells u)
-      (made_as_asked zs vs ∙ sym (ap (λ (g : Figures). CountsAdded.Added g.entries g.total) (answered_ask f a).1))
+      (made_as_asked zs vs ∙ sym (ap (λ (g : Figures). Ok (record { entries = g.entries; total = g.total })) (answered_ask f a).1))
 
   -- and with a place fewer, or more than one, the commit is refused by 11.
-  pub fewer_places_refused : (f : Figures) (zs vs : List ℕ) → ask_counts P l r M T ≡ Asked.Answer f → length zs ≡ length vs → length zs < f.cells
-      → commit_counts P l r M T f zs vs ≡ (CountsAdded.Refused Refusal.NoSpace, zs, vs)
+  pub fewer_places_refused : (f : Figures) (zs vs : List ℕ) → ask_counts P l r M T ≡ Ok f → length zs ≡ length vs → length zs < f.cells
+      → commit_counts P l r M T f zs vs ≡ (Err Refusal.NoSpace, zs, vs)
   unfolding commit_counts places_refusal pool_over
   fewer_places_refused f zs vs a q u = rw (asked_space f (length zs) (length vs) a q, lt-ltb (length zs) f.cells u) refl
 

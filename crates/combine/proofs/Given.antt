@@ -1,21 +1,25 @@
 -- The entries of a valid map rise, none is deeper than its depth, and they are read back as they were laid. Assumes nothing.
 use mathlib.Core.Path.{◌≡◌, refl, ap}
+use mathlib.Core.Bool.{true, false≢true}
 use mathlib.Core.List.{List, [], ◌∷◌, map}
 use mathlib.Core.Logic.{inl, inr, ⊎_elim}
+use mathlib.Core.Option.{Option, none, some}
 use Prim.Native.Nat.{ℕ, ◌+◌, ◌≤◌, ◌<◌}
 use native.Mathlib.Omega.{arith}
 use lib.ListN.{length}
 use Rattle.zuniq.specs.Cells.{n_hash, end}
 use Rattle.zuniq.proofs.Codec.{cell, decodes}
 use Rattle.zuniq.proofs.Ranges.{valid_iff_end_le}
-use Rattle.mom.specs.Map.{ValidMap}
+use Rattle.refusal.specs.declared.Refusal.{Refusal}
+use Rattle.mom.specs.Map.{first_fault, ValidMap}
 use Rattle.mom.proofs.Rises.{Rises as ZuniqsRise, valid_rises}
 use Rattle.build.specs.Map.{Entry}
 use Rattle.build.specs.Buffers.{zuniq_of, value_of}
 use Rattle.build.specs.Promises.{Has, Rises}
-use Rattle.build.specs.Add.{sum_of}
+use Rattle.build.specs.Add.{map_refusal, sum_of}
+use Rattle.build.proofs.Checking.{map_passes}
 use Rattle.build.specs.Counts.{total_of}
-use Rattle.combine.specs.Slices.{entries_of}
+use Rattle.combine.specs.Slices.{entries_of, Holds, passes}
 use Rattle.combine.proofs.Deeper.{Shallow}
 
 module _ {A : Type 0} (D : ℕ) where
@@ -59,3 +63,13 @@ total_from D b (z ∷ zs) (x ∷ vs) n r =
 -- The total of a valid map is the sum of its counts.
 pub entries_total : (D : ℕ) (zs vs : List ℕ) → length zs ≡ length vs → ValidMap 29 D zs → total_of (entries_of zs vs) ≡ sum_of vs
 entries_total D zs vs n v = total_from D 0 zs vs n (valid_rises 29 D zs v)
+
+-- ---- two slices that a check has passed
+none_of_passes : (o : Option Refusal) → passes o ≡ true → o ≡ none
+none_of_passes none q = refl
+none_of_passes (some x) q = absurd (false≢true q)
+
+pub map_holds : {A : Type 0} (D : ℕ) (zs : List ℕ) (vs : List A) → length zs ≡ length vs → passes (map_refusal (first_fault 29 D zs)) ≡ true → Holds zs vs
+map_holds D zs vs n q =
+    let v = map_passes 29 D zs (none_of_passes (map_refusal (first_fault 29 D zs)) q) in
+    record { paired = n; valid = v.valid; rises = entries_rise D zs vs n v }

@@ -2,7 +2,7 @@
 -- other's hash. Over any type of cells. Assumes nothing.
 use mathlib.Core.Path.{◌≡◌, refl, sym, ◌∙◌}
 use mathlib.Core.List.{List}
-use mathlib.Core.Option.{Option, none, some}
+use mathlib.Core.Option.{Option, some}
 use Prim.Native.Nat.{ℕ, suc, ◌+◌, ◌*◌, ◌/◌, ◌-◌, ◌^◌, ◌≤◌, ◌<◌}
 use native.Mathlib.Omega.{arith}
 use native.Mathlib.Nat.{pow-le-pow_right, div-one, le-div_iff_mul-le, div-lt_iff_lt-mul}
@@ -12,7 +12,7 @@ use Rattle.zuniq.proofs.Basics.{four_pow_pos, four_pow_two}
 use Rattle.zuniq.proofs.Ranges.{lies_in-iff, end-is_next_start, start-le_iff, start-at_depth, child_valid_iff}
 use Rattle.build.specs.Map.{Entry, entry}
 use Rattle.build.specs.Stack.{child}
-use Rattle.combine.specs.Heads.{Act, shows, saw_left, saw_right, saw_both, opens_left, opens_right, Shallow, EntryAt, Turned}
+use Rattle.combine.specs.Heads.{Act, shows, saw_left, saw_right, saw_both, opens_left, opens_right, EntryAt, Turned}
 
 module _ (K d h e g : ℕ) (l : d ≤ e) (m : e ≤ K) where
   -- A cell ends before another starts if it is before its ancestor.
@@ -23,24 +23,15 @@ module _ (K d h e g : ℕ) (l : d ≤ e) (m : e ≤ K) where
   ancestor_before : g / 4 ^ (e - d) < h → end K e g ≤ start K d h
   ancestor_before t = simp (end-is_next_start, start-at_depth K d e l m, start-le_iff) ((div-lt_iff_lt-mul (four_pow_pos (e - d))).0 t)
 
--- ---- sides without a head
+-- ---- sides with a head
 module _ {A C : Type 0} (as_entry : C → Entry A) (K : ℕ) (x y : Option C) where
-  pub left_alone : (a : C) → x ≡ some a → y ≡ none → Turned as_entry K x y (shows (saw_left a))
-  left_alone a p q = rw (p, q) (refl, tt)
-
-  pub right_alone : (b : C) → x ≡ none → y ≡ some b → Turned as_entry K x y (shows (saw_right b))
-  right_alone b p q = rw (p, q) (refl, tt)
-
-  -- with two heads
+  -- Two heads lead to what their cells lead to.
   pub heads_meet : (a b : C) (t : Act C) → x ≡ some a → y ≡ some b → Turned as_entry K (some a) (some b) t → Turned as_entry K x y t
   heads_meet a b t p q k = rw (p, q) k
 
-pub Shallow-head : {A C : Type 0} (as_entry : C → Entry A) (x : Option C) (a : C) → x ≡ some a → Shallow as_entry x → (as_entry a).depth ≤ 29
-Shallow-head as_entry x a q s = rw q at s
-
 -- What is known of the entry at a place, once it is known what that is.
-pub entry_known : {A C : Type 0} (as_entry : C → Entry A) (zuniq_in : C → ℕ) (u : A) (zs : List ℕ) (vs : List A) (i : ℕ) (x y : Option C) → x ≡ y → EntryAt as_entry zuniq_in u zs vs i x → EntryAt as_entry zuniq_in u zs vs i y
-entry_known as_entry zuniq_in u zs vs i x y q f = rw (← q) f
+pub entry_known : {A C : Type 0} (as_entry : C → Entry A) (zuniq_in : C → ℕ) (zs : List ℕ) (vs : List A) (i : ℕ) (x y : Option C) → x ≡ y → EntryAt as_entry zuniq_in zs vs i x → EntryAt as_entry zuniq_in zs vs i y
+entry_known as_entry zuniq_in zs vs i x y q f = rw (← q) f
 
 -- ---- two heads
 module _ {A C : Type 0} (as_entry : C → Entry A) (K : ℕ) (a b : C) where

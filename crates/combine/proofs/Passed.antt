@@ -1,7 +1,7 @@
 -- Two maps that pass the checks of a call: their entries rise, they are in the slices as the walk takes them, and what is made of
 -- them is the same over the larger of their depths as over all depths that there are. Assumes nothing.
-use mathlib.Core.Path.{◌≡◌, ap, sym, ◌∙◌}
-use mathlib.Core.Bool.{◌||◌, not}
+use mathlib.Core.Path.{◌≡◌, refl, ap, sym, ◌∙◌}
+use mathlib.Core.Bool.{true, ◌||◌, not}
 use mathlib.Core.Option.{none}
 use Prim.Native.Nat.{ℕ, ◌≤◌}
 use native.Mathlib.Omega.{arith}
@@ -19,7 +19,7 @@ use Rattle.refusal.proofs.Checks.{or_else_none, refused_if-none}
 use Rattle.build.proofs.Checking.{or_false_both, map_passes}
 use Rattle.combine.specs.Overlay.{Split, overlay}
 use Rattle.combine.specs.Rules.{Rule, kept, combined}
-use Rattle.combine.specs.Slices.{Holds}
+use Rattle.combine.specs.Slices.{passes}
 use Rattle.combine.specs.Pool.{Given, entries, result_depth, settings_refusal, pairs_refusal, maps_refusal}
 use Rattle.combine.proofs.Kept.{kept-overlay_rises}
 use Rattle.combine.proofs.Deeper.{Shallow, overlay-deeper}
@@ -34,6 +34,8 @@ pub record Passed {A : Type 0} (l r : Given A) (places values : ℕ) : Type 0 wh
   pub paired : places ≡ values
   pub left_valid : ValidMap 29 l.depth l.zuniqs
   pub right_valid : ValidMap 29 r.depth r.zuniqs
+  pub left_passes : passes (map_refusal (first_fault 29 l.depth l.zuniqs)) ≡ true
+  pub right_passes : passes (map_refusal (first_fault 29 r.depth r.zuniqs)) ≡ true
 
 settings-pass : (Dl Dr M : ℕ) (T : Float) → settings_refusal Dl Dr M T ≡ none → (Dl ≤ 29) × (Dr ≤ 29)
 unfolding settings_refusal
@@ -63,6 +65,8 @@ passed l r M T places values a b c =
       paired = p.2;
       left_valid = map_passes 29 l.depth l.zuniqs m.0;
       right_valid = map_passes 29 r.depth r.zuniqs m.1;
+      left_passes = rw m.0 refl;
+      right_passes = rw m.1 refl;
     }
 
 -- Their entries rise, and none is deeper than the result.
@@ -81,12 +85,6 @@ module _ {A : Type 0} (l r : Given A) (places values : ℕ) (p : Passed l r plac
 
   pub result_deep : result_depth l r ≤ 29
   result_deep = omega (arith, p.left_deep, p.right_deep)
-
-  pub passed_holds : Holds l.zuniqs l.values × Holds r.zuniqs r.values
-  passed_holds = (
-    record { paired = p.left_paired; valid = p.left_valid.valid; rises = left_rises },
-    record { paired = p.right_paired; valid = p.right_valid.valid; rises = right_rises },
-  )
 
   -- The cells that a rule keeps, and what merging makes of them, over all depths and over that of the result.
   module _ (split : Split A) (rule : Rule A) where

@@ -1,5 +1,6 @@
 -- The pool call: what one that is not refused may rely on, what it leaves, and that it is the same with the maps swapped.
 -- Assumes nothing.
+use Rattle.std.specs.Prelude.{Result, Ok, Err}
 use mathlib.Core.Path.{◌≡◌, refl, ap, ap₂, sym, ◌∙◌}
 use mathlib.Core.Bool.{Bool, true, false, ◌||◌, not}
 use mathlib.Core.List.{List, reverse, ◌++◌}
@@ -23,7 +24,7 @@ use Rattle.build.specs.Calls.{Buffers, Answer}
 use Rattle.build.specs.Standing.{Added}
 use Rattle.build.specs.Add.{sum_of}
 use Rattle.build.specs.Counts.{total_of, Report, count_calls, counts_added}
-use Rattle.build.specs.declared.counts.CountsAdded.{CountsAdded}
+use Rattle.build.specs.declared.counts.Added.{Added as CountsAdded}
 use Rattle.build.proofs.Entries.{total-reverse}
 use Rattle.build.proofs.Places.{held-length}
 use Rattle.refusal.proofs.Checks.{or_else_none, refused_if-none}
@@ -54,7 +55,7 @@ Passed-total l r places values p = ap₂ ◌+◌ (entries_total l.depth l.zuniqs
 module _ (P : List ℕ) (l r : List (Entry ℕ)) (p : Rises 29 0 (n_hash 29) l) (q : Rises 29 0 (n_hash 29) r) (M : ℕ) (T : Float) (zs vs : List ℕ) where
   pub pool_left : (n sum : ℕ) (zs₁ vs₁ zs₂ vs₂ : List ℕ) → Added (accept_counts 29 P M T) 29 0 (kept pool_rule (overlay split_count 29 l r)) zs vs n zs₁ vs₁
       → length zs₁ ≡ length zs → length vs₁ ≡ length vs → zs₂ ≡ take n zs₁ ++ replicate (length zs₁ - n) 0 → vs₂ ≡ take n vs₁ ++ replicate (length vs₁ - n) 0
-      → total_of l + total_of r ≡ sum → (CountsAdded.Added n sum, zs₂, vs₂) ≡ pool_over P 29 none l r M T zs vs
+      → total_of l + total_of r ≡ sum → (Ok (record { entries = n; total = sum }), zs₂, vs₂) ≡ pool_over P 29 none l r M T zs vs
   unfolding pool_over held read_onto
   pool_left n sum zs₁ vs₁ zs₂ vs₂ w lz lv ez ev es =
       let accept = accept_counts 29 P M T in
@@ -63,7 +64,7 @@ module _ (P : List ℕ) (l r : List (Entry ℕ)) (p : Rises 29 0 (n_hash 29) l) 
       let k : n ≡ length (held 29 n zs₁ vs₁) = sym (held-length 29 0 n zs₁ vs₁ w.stands) in
       let t : sum ≡ total_of (held 29 n zs₁ vs₁) =
       sym es ∙ sym (pool_total 29 l r p q accept (λ d h k0 k1 k2 k3 x y. accepted_count_is_sum 29 P M T d h k0 k1 k2 k3 x y)) ∙ sym (total-reverse (λ x. x) pool) ∙ sym (ap total_of is) in
-      ap₂ (λ (k t : ℕ). (CountsAdded.Added k t, zs₂, vs₂)) k t
+      ap₂ (λ (k t : ℕ). (Ok (record { entries = k; total = t }), zs₂, vs₂)) k t
       ∙ ap (λ (u : Buffers ℕ × Answer Refusal Report). (counts_added u.1, u.0.zuniqs, u.0.values)) (map_left (count_calls 29 P 29 M T) 0 (record { number = 0; zuniqs = zs; values = vs }) (reverse pool) n zs₁ vs₁ zs₂ vs₂ w.stands is lz lv ez ev)
 
 -- The same where the cells are counted: there is too little space, or the pool is made.
@@ -71,13 +72,13 @@ module _ (P : List ℕ) (l r : List (Entry ℕ)) (M : ℕ) (T : Float) (zs vs : 
   abbrev walked : List (Entry ℕ)
   walked = kept pool_rule (overlay split_count 29 l r)
 
-  pub pool_no_space : length zs < cells → (CountsAdded.Refused Refusal.NoSpace, zs, vs) ≡ pool_over P 29 (places_refusal (length zs) (length walked)) l r M T zs vs
+  pub pool_no_space : length zs < cells → (Err Refusal.NoSpace, zs, vs) ≡ pool_over P 29 (places_refusal (length zs) (length walked)) l r M T zs vs
   unfolding pool_over places_refusal
   pool_no_space u = rw (lt-ltb (length zs) (length walked) (omega (arith, u, c))) refl
 
   pub pool_made : Rises 29 0 (n_hash 29) l → Rises 29 0 (n_hash 29) r → cells ≤ length zs → (n sum : ℕ) (zs₁ vs₁ zs₂ vs₂ : List ℕ) → Added (accept_counts 29 P M T) 29 0 walked zs vs n zs₁ vs₁
       → length zs₁ ≡ length zs → length vs₁ ≡ length vs → zs₂ ≡ take n zs₁ ++ replicate (length zs₁ - n) 0 → vs₂ ≡ take n vs₁ ++ replicate (length vs₁ - n) 0
-      → total_of l + total_of r ≡ sum → (CountsAdded.Added n sum, zs₂, vs₂) ≡ pool_over P 29 (places_refusal (length zs) (length walked)) l r M T zs vs
+      → total_of l + total_of r ≡ sum → (Ok (record { entries = n; total = sum }), zs₂, vs₂) ≡ pool_over P 29 (places_refusal (length zs) (length walked)) l r M T zs vs
   unfolding places_refusal
   pool_made p q u n sum zs₁ vs₁ zs₂ vs₂ w lz lv ez ev es =
       rw (le-ltb (length zs) (length walked) (omega (arith, u, c))) (pool_left P l r p q M T zs vs n sum zs₁ vs₁ zs₂ vs₂ w lz lv ez ev es)
@@ -120,11 +121,11 @@ module _ (P : List ℕ) (l r : Given ℕ) (M : ℕ) (T : Float) where
 
 -- ---- the call
 module _ (P : List ℕ) (l r : Given ℕ) (M : ℕ) (T : Float) (zs vs : List ℕ) where
-  pub pool_refused : (x : Refusal) → pool_input_refusal P l r M T (length zs) (length vs) ≡ some x → (CountsAdded.Refused x, zs, vs) ≡ pool_counts P l r M T zs vs
+  pub pool_refused : (x : Refusal) → pool_input_refusal P l r M T (length zs) (length vs) ≡ some x → (Err x, zs, vs) ≡ pool_counts P l r M T zs vs
   unfolding pool_counts pool_refusal pool_over
   pool_refused x e = rw e refl
 
-  pub pool_done : pool_input_refusal P l r M T (length zs) (length vs) ≡ none → (t : CountsAdded × List ℕ × List ℕ)
+  pub pool_done : pool_input_refusal P l r M T (length zs) (length vs) ≡ none → (t : Result CountsAdded Refusal × List ℕ × List ℕ)
       → t ≡ pool_over P 29 (places_refusal (length zs) (length (kept pool_rule (overlay split_count 29 (entries l) (entries r))))) (entries l) (entries r) M T zs vs → t ≡ pool_counts P l r M T zs vs
   unfolding pool_counts pool_refusal pool_over
   pool_done e t q =

@@ -1,6 +1,7 @@
 -- The product call: what one that is not refused leaves. Assumes nothing.
+use Rattle.std.specs.Prelude.{Result, Ok, Err}
 use mathlib.Core.Path.{◌≡◌, refl, ap, sym, ◌∙◌}
-use mathlib.Core.Bool.{true≢false}
+use mathlib.Core.Bool.{true, false}
 use mathlib.Core.List.{List, reverse, ◌++◌}
 use mathlib.Core.Option.{Option, none, some}
 use Prim.Native.Nat.{ℕ, ◌-◌, ◌≤◌, ◌<◌}
@@ -19,15 +20,12 @@ use Rattle.build.specs.Buffers.{held, read_onto}
 use Rattle.build.specs.Calls.{Buffers, Answer}
 use Rattle.build.specs.Standing.{Added}
 use Rattle.build.specs.Densities.{density_calls, densities_added}
-use Rattle.build.specs.declared.densities.DensitiesAdded.{DensitiesAdded}
 use Rattle.build.proofs.Places.{held-length}
 use Rattle.refusal.proofs.Checks.{or_else_none}
 use Rattle.build.proofs.Accepted.{map_left}
 use Rattle.combine.specs.Overlay.{overlay}
 use Rattle.combine.specs.Rules.{kept, copy_density, product_rule, defined_product}
-use Rattle.combine.specs.Densities.{CellsOutcome}
-use Rattle.combine.specs.declared.Pass.{Pass}
-use Rattle.combine.specs.declared.densities.Cells.{Cells}
+use Rattle.combine.specs.Densities.{some_not_finite}
 use Rattle.combine.specs.Pool.{Given, entries, settings_refusal, factor_refusal, pairs_refusal, maps_refusal, places_refusal, finite_refusal, product_input_refusal, product_refusal, product_over, product_densities}
 use Rattle.combine.proofs.Kept.{run-gives_combined}
 use Rattle.combine.proofs.Passed.{Passed, passed, kept-deeper, combined-deeper}
@@ -39,66 +37,38 @@ module _ (P : List ℕ) (l r : List (Entry Float)) (M : ℕ) (T k : Float) (zs :
 
   product_left : (n : ℕ) (zs₁ : List ℕ) (vs₁ : List Float) (zs₂ : List ℕ) (vs₂ : List Float) → Added (accept_densities P M T) 29 0 walked zs vs n zs₁ vs₁
       → length zs₁ ≡ length zs → length vs₁ ≡ length vs → zs₂ ≡ take n zs₁ ++ replicate (length zs₁ - n) 0 → vs₂ ≡ take n vs₁ ++ replicate (length vs₁ - n) 0·0
-      → (DensitiesAdded.Added n, zs₂, vs₂) ≡ product_over P 29 none l r M T k zs vs
+      → (Ok n, zs₂, vs₂) ≡ product_over P 29 none l r M T k zs vs
   unfolding product_over held read_onto
   product_left n zs₁ vs₁ zs₂ vs₂ w lz lv ez ev =
       let accept = accept_densities P M T in
       let product = defined_product accept k 29 l r in
       let is : held 29 n zs₁ vs₁ ≡ reverse product = w.is ∙ run-gives_combined (product_rule k) accept copy_density 29 l r in
       let q : n ≡ length (held 29 n zs₁ vs₁) = sym (held-length 29 nan n zs₁ vs₁ w.stands) in
-      ap (λ (m : ℕ). (DensitiesAdded.Added m, zs₂, vs₂)) q
+      ap (λ (m : ℕ). (Ok m, zs₂, vs₂)) q
       ∙ ap (λ (u : Buffers Float × Answer Refusal ℕ). (densities_added u.1, u.0.zuniqs, u.0.values)) (map_left (density_calls P 29 M T) nan (record { number = 0; zuniqs = zs; values = vs }) (reverse product) n zs₁ vs₁ zs₂ vs₂ w.stands is lz lv ez ev)
 
   -- what is known once the cells have been walked and counted
   abbrev after : Option Refusal
   after = or_else (finite_refusal walked) (places_refusal (length zs) (length walked))
 
-  -- The cells have been counted, with the answer x: the buffers are as they were.
-  module _ (zs' : List ℕ) (vs' : List Float) (x : Cells) (o : CellsOutcome P Pass.Count 0 walked zs vs x zs' vs') where
-    -- A product that is not finite is refused,
-    pub product_not_finite : x ≡ Cells.NotFinite → (DensitiesAdded.Refused Refusal.ProductNotFinite, zs', vs') ≡ product_over P 29 after l r M T k zs vs
-    unfolding product_over finite_refusal
-    product_not_finite q =
-        let c : CellsOutcome P Pass.Count 0 walked zs vs Cells.NotFinite zs' vs' = rw q at o in
-        rw c.0 (λ i. (DensitiesAdded.Refused Refusal.ProductNotFinite, c.1.0 i, c.1.1 i))
+  -- A product that is not finite is refused,
+  pub product_not_finite : some_not_finite walked ≡ true → (Err Refusal.ProductNotFinite, zs, vs) ≡ product_over P 29 after l r M T k zs vs
+  unfolding product_over finite_refusal
+  product_not_finite q = rw q refl
 
-    module _ (cells : ℕ) (q : x ≡ Cells.Number cells) where
-      counted : CellsOutcome P Pass.Count 0 walked zs vs (Cells.Number cells) zs' vs'
-      counted = rw q at o
+  module _ (finite : some_not_finite walked ≡ false) (cells : ℕ) (c : cells ≡ length walked) where
+    -- so is too little space,
+    pub product_no_space : length zs < cells → (Err Refusal.NoSpace, zs, vs) ≡ product_over P 29 after l r M T k zs vs
+    unfolding product_over finite_refusal places_refusal
+    product_no_space u = rw (finite, lt-ltb (length zs) (length walked) (omega (arith, u, c))) refl
 
-      -- so is too little space,
-      pub product_no_space : length zs' < cells → (DensitiesAdded.Refused Refusal.NoSpace, zs', vs') ≡ product_over P 29 after l r M T k zs vs
-      unfolding product_over finite_refusal places_refusal
-      product_no_space u =
-          let c = counted in
-          rw (c.0, lt-ltb (length zs) (length walked) (omega (arith, u, c.1.0, ap length c.1.1))) (λ i. (DensitiesAdded.Refused Refusal.NoSpace, c.1.1 i, c.1.2 i))
-
-      -- otherwise there is room,
-      pub product_room : cells ≤ length zs' → length zs ≡ length vs → (length walked ≤ length zs') × (length walked ≤ length vs')
-      product_room u e = let c = counted in (omega (arith, u, c.1.0), omega (arith, u, c.1.0, e, ap length c.1.1, ap length c.1.2))
-
-      module _ (y : Cells) (zs₁ : List ℕ) (vs₁ : List Float) (w : CellsOutcome P (Pass.Merge M T) 0 walked zs' vs' y zs₁ vs₁) where
-        -- all products are finite,
-        pub product_finite : y ≡ Cells.NotFinite → ⊥
-        product_finite e =
-            let d : CellsOutcome P (Pass.Merge M T) 0 walked zs' vs' Cells.NotFinite zs₁ vs₁ = rw e at w in
-            true≢false (sym d.0 ∙ counted.0)
-
-        module _ (n : ℕ) (e : y ≡ Cells.Number n) where
-          merged : Added (accept_densities P M T) 29 0 walked zs' vs' n zs₁ vs₁
-          merged = let d : CellsOutcome P (Pass.Merge M T) 0 walked zs' vs' (Cells.Number n) zs₁ vs₁ = rw e at w in d.1
-
-          pub product_within : (n ≤ length zs₁) × (n ≤ length vs₁)
-          product_within = (merged.stands.zuniqs, merged.stands.values)
-
-          -- and the product is made.
-          pub product_made : cells ≤ length zs' → (zs₂ : List ℕ) (vs₂ : List Float) → length zs₁ ≡ length zs' → length vs₁ ≡ length vs'
-              → zs₂ ≡ take n zs₁ ++ replicate (length zs₁ - n) 0 → vs₂ ≡ take n vs₁ ++ replicate (length vs₁ - n) 0·0 → (DensitiesAdded.Added n, zs₂, vs₂) ≡ product_over P 29 after l r M T k zs vs
-          unfolding finite_refusal places_refusal
-          product_made u zs₂ vs₂ lz lv ez ev =
-              let c = counted in
-              let a : Added (accept_densities P M T) 29 0 walked zs vs n zs₁ vs₁ = rw (c.1.1, c.1.2) at merged in
-              rw (c.0, le-ltb (length zs) (length walked) (omega (arith, u, c.1.0, ap length c.1.1))) (product_left n zs₁ vs₁ zs₂ vs₂ a (lz ∙ ap length c.1.1) (lv ∙ ap length c.1.2) ez ev)
+    -- and otherwise the product is made.
+    pub product_made : cells ≤ length zs → (n : ℕ) (zs₁ : List ℕ) (vs₁ : List Float) (zs₂ : List ℕ) (vs₂ : List Float) → Added (accept_densities P M T) 29 0 walked zs vs n zs₁ vs₁
+        → length zs₁ ≡ length zs → length vs₁ ≡ length vs → zs₂ ≡ take n zs₁ ++ replicate (length zs₁ - n) 0 → vs₂ ≡ take n vs₁ ++ replicate (length vs₁ - n) 0·0
+        → (Ok n, zs₂, vs₂) ≡ product_over P 29 after l r M T k zs vs
+    unfolding finite_refusal places_refusal
+    product_made u n zs₁ vs₁ zs₂ vs₂ w lz lv ez ev =
+        rw (finite, le-ltb (length zs) (length walked) (omega (arith, u, c))) (product_left n zs₁ vs₁ zs₂ vs₂ w lz lv ez ev)
 
 -- ---- the call
 module _ (P : List ℕ) (l r : Given Float) (M : ℕ) (T k : Float) (zs : List ℕ) (vs : List Float) where
@@ -112,11 +82,11 @@ module _ (P : List ℕ) (l r : Given Float) (M : ℕ) (T k : Float) (zs : List �
       let d = or_else_none (maps_refusal l r) _ c.1 in
       (passed l r M T (length zs) (length vs) a.0 c.0 d.0, ((accepted_iff_rising_list 29 P).0 f.0).rising)
 
-  pub product_refused : (x : Refusal) → product_input_refusal P l r M T k (length zs) (length vs) ≡ some x → (DensitiesAdded.Refused x, zs, vs) ≡ product_densities P l r M T k zs vs
+  pub product_refused : (x : Refusal) → product_input_refusal P l r M T k (length zs) (length vs) ≡ some x → (Err x, zs, vs) ≡ product_densities P l r M T k zs vs
   unfolding product_densities product_refusal product_over
   product_refused x e = rw e refl
 
-  pub product_done : product_input_refusal P l r M T k (length zs) (length vs) ≡ none → (t : DensitiesAdded × List ℕ × List Float)
+  pub product_done : product_input_refusal P l r M T k (length zs) (length vs) ≡ none → (t : Result ℕ Refusal × List ℕ × List Float)
       → t ≡ product_over P 29 (after P (entries l) (entries r) M T k zs vs) (entries l) (entries r) M T k zs vs → t ≡ product_densities P l r M T k zs vs
   unfolding product_densities product_refusal product_over
   product_done e t q =

@@ -1,7 +1,7 @@
 -- The state of the walk as code keeps it, two sides and what has been shown, and what a turn does to it. Over any type of the
 -- code's cells. Assumes nothing.
 use mathlib.Core.Path.{◌≡◌, refl, ap, sym, ◌∙◌, subst}
-use mathlib.Core.Bool.{Bool, true, false}
+use mathlib.Core.Bool.{true, false}
 use mathlib.Core.List.{List, [], ◌∷◌, ◌++◌, append_assoc, append-nil}
 use mathlib.Core.Option.{Option, none, some}
 use Prim.Native.Nat.{ℕ, ◌+◌, ◌<◌}
@@ -13,30 +13,19 @@ use Rattle.build.proofs.Entries.{entry-is}
 use Rattle.build.proofs.Rising.{Rises-from}
 use Rattle.combine.specs.Overlay.{Seen, Split, overlay}
 use Rattle.combine.specs.Walk.{Before, Inner}
-use Rattle.combine.specs.Heads.{Saw, saw_left, saw_right, saw_both, shows, ends, At, side_at, used, shown_as, Ahead, Turned, ChildOf}
+use Rattle.combine.specs.Heads.{Saw, saw_left, saw_right, saw_both, takes_left, takes_right, shows, ends, At, side_at, used, pushed, shown_as, Ahead, Turned, ChildOf}
 use Rattle.combine.proofs.Turns.{Rises-open, overlay-open_left, overlay-open_right}
 use Rattle.combine.proofs.Walk.{overlay-nil, overlay-give_left, overlay-give_right, overlay-give_both}
-use Rattle.combine.proofs.Sides.{pending, pushed, to_come, Side, Filled, Side-taken, open_side, open_to_come}
+use Rattle.combine.proofs.Sides.{pending, to_come, Side, Filled, Side-taken, open_side, open_to_come}
 
--- whose head is used up when a cell is shown
-abbrev pub takes_left : {C : Type 0} → Saw C → Bool
-takes_left (saw_left a) = true
-takes_left (saw_right b) = false
-takes_left (saw_both a b) = true
-
-abbrev pub takes_right : {C : Type 0} → Saw C → Bool
-takes_right (saw_left a) = false
-takes_right (saw_right b) = true
-takes_right (saw_both a b) = true
-
-module _ {A C : Type 0} (split : Split A) (as_entry : C → Entry A) (blank : C) (zuniq_in : C → ℕ) (K : ℕ) where
+module _ {A C : Type 0} (split : Split A) (as_entry : C → Entry A) (zuniq_in : C → ℕ) (K : ℕ) where
   -- A side without a head is at its end.
-  nothing_to_come : (rest : ℕ → List (Entry A)) (p : List C) (m i : ℕ) → Side as_entry blank zuniq_in K rest (side_at none m i false) p → to_come as_entry blank rest (side_at none m i false) p ≡ []
+  nothing_to_come : (rest : ℕ → List (Entry A)) (p : List C) (m i : ℕ) → Side as_entry zuniq_in K rest (side_at none m i false) p → to_come as_entry rest (side_at none m i false) p ≡ []
   unfolding pending
   nothing_to_come rest p m i s = let h = s.known refl in rw h.0 h.1
 
   -- What ends before the head of a side starts ends before all of it.
-  ahead_before : (rest : ℕ → List (Entry A)) (a : C) (y : Option C) (p : List C) (m i : ℕ) → Side as_entry blank zuniq_in K rest (side_at y m i false) p → Ahead as_entry K a y → Before K (as_entry a) (to_come as_entry blank rest (side_at y m i false) p)
+  ahead_before : (rest : ℕ → List (Entry A)) (a : C) (y : Option C) (p : List C) (m i : ℕ) → Side as_entry zuniq_in K rest (side_at y m i false) p → Ahead as_entry K a y → Before K (as_entry a) (to_come as_entry rest (side_at y m i false) p)
   ahead_before rest a none p m i s t = rw (nothing_to_come rest p m i s) tt
   ahead_before rest a (some b) p m i s t = t
 
@@ -45,21 +34,21 @@ module _ {A C : Type 0} (split : Split A) (as_entry : C → Entry A) (blank : C)
 
   module _ (el er : ℕ → List (Entry A)) where
     abbrev L : At C → List C → List (Entry A)
-    L s p = to_come as_entry blank el s p
+    L s p = to_come as_entry el s p
 
     abbrev R : At C → List C → List (Entry A)
-    R s p = to_come as_entry blank er s p
+    R s p = to_come as_entry er s p
 
     -- `done` has been shown, of the overlay
     pub record State (done : List (Entry (Seen A))) (l r : At C) (lp rp : List C) : Type 0 where
-      pub on_left : Side as_entry blank zuniq_in K el l lp
-      pub on_right : Side as_entry blank zuniq_in K er r rp
+      pub on_left : Side as_entry zuniq_in K el l lp
+      pub on_right : Side as_entry zuniq_in K er r rp
       pub rises_left : Rises K 0 (n_hash K) (L l lp)
       pub rises_right : Rises K 0 (n_hash K) (R r rp)
       pub whole : done ++ overlay split K (L l lp) (R r rp) ≡ overlay split K (el 0) (er 0)
 
     -- Fetching heads changes nothing.
-    pub State-filled : (done : List (Entry (Seen A))) (l r l' r' : At C) (lp rp : List C) → State done l r lp rp → Filled as_entry blank zuniq_in K el l l' lp → Filled as_entry blank zuniq_in K er r r' rp
+    pub State-filled : (done : List (Entry (Seen A))) (l r l' r' : At C) (lp rp : List C) → State done l r lp rp → Filled as_entry zuniq_in K el l l' lp → Filled as_entry zuniq_in K er r r' rp
         → State done (used false l') (used false r') lp rp
     State-filled done l r l' r' lp rp s f g = record {
       on_left = f.side;
@@ -80,7 +69,7 @@ module _ {A C : Type 0} (split : Split A) (as_entry : C → Entry A) (blank : C)
 
       show_left : (a : C) (y : Option C) → Ready (some a) y → Ahead as_entry K a y → State (done ++ (shown_as as_entry (saw_left a) ∷ [])) (side_at (some a) m i true) (side_at y n j false) lp rp
       show_left a y s t = record {
-        on_left = Side-taken as_entry blank zuniq_in K el (side_at (some a) m i false) lp true s.on_left;
+        on_left = Side-taken as_entry zuniq_in K el (side_at (some a) m i false) lp true s.on_left;
         on_right = s.on_right;
         rises_left = Rises-tail (as_entry a) (L (side_at (some a) m i true) lp) s.rises_left;
         rises_right = s.rises_right;
@@ -90,7 +79,7 @@ module _ {A C : Type 0} (split : Split A) (as_entry : C → Entry A) (blank : C)
       show_right : (x : Option C) (b : C) → Ready x (some b) → Ahead as_entry K b x → State (done ++ (shown_as as_entry (saw_right b) ∷ [])) (side_at x m i false) (side_at (some b) n j true) lp rp
       show_right x b s t = record {
         on_left = s.on_left;
-        on_right = Side-taken as_entry blank zuniq_in K er (side_at (some b) n j false) rp true s.on_right;
+        on_right = Side-taken as_entry zuniq_in K er (side_at (some b) n j false) rp true s.on_right;
         rises_left = s.rises_left;
         rises_right = Rises-tail (as_entry b) (R (side_at (some b) n j true) rp) s.rises_right;
         whole = next_whole _ _ (rw (overlay-give_right split K (as_entry b) (R (side_at (some b) n j true) rp) (L (side_at x m i false) lp) s.rises_right s.rises_left (ahead_before el b x lp m i s.on_left t)) at s.whole);
@@ -106,8 +95,8 @@ module _ {A C : Type 0} (split : Split A) (as_entry : C → Entry A) (blank : C)
           = ap (λ (e : Entry A). overlay split K (as_entry a ∷ l) (e ∷ r)) z
           ∙ overlay-give_both split K (as_entry a).depth (as_entry a).hash (as_entry a).value (as_entry b).value l r s.rises_left (subst (λ (e : Entry A). Rises K 0 (n_hash K) (e ∷ r)) z s.rises_right) in
           record {
-            on_left = Side-taken as_entry blank zuniq_in K el (side_at (some a) m i false) lp true s.on_left;
-            on_right = Side-taken as_entry blank zuniq_in K er (side_at (some b) n j false) rp true s.on_right;
+            on_left = Side-taken as_entry zuniq_in K el (side_at (some a) m i false) lp true s.on_left;
+            on_right = Side-taken as_entry zuniq_in K er (side_at (some b) n j false) rp true s.on_right;
             rises_left = Rises-tail (as_entry a) l s.rises_left;
             rises_right = Rises-tail (as_entry b) r s.rises_right;
             whole = next_whole _ _ (rw q at s.whole);
@@ -130,12 +119,12 @@ module _ {A C : Type 0} (split : Split A) (as_entry : C → Entry A) (blank : C)
       -- ---- splitting a head
       module _ (a b : C) (s : Ready (some a) (some b)) (c3 c2 c1 c0 : C) where
         pub State-open_left : Inner (as_entry b) (as_entry a) → (u : (as_entry a).depth < K) → ChildOf as_entry zuniq_in split a 3 c3 → ChildOf as_entry zuniq_in split a 2 c2 → ChildOf as_entry zuniq_in split a 1 c1 → ChildOf as_entry zuniq_in split a 0 c0
-            → State done (side_at (some c0) (m + 3) i false) (side_at (some b) n j false) (pushed as_entry blank lp m c3 c2 c1) rp
+            → State done (side_at (some c0) (m + 3) i false) (side_at (some b) n j false) (pushed lp m c3 c2 c1) rp
         State-open_left t u k3 k2 k1 k0 =
             let l = L (side_at (some a) m i true) lp in
-            let z = open_to_come as_entry blank zuniq_in K el split a lp m i s.on_left u c3 c2 c1 c0 k3 k2 k1 k0 in
+            let z = open_to_come as_entry zuniq_in K el split a lp m i s.on_left u c3 c2 c1 c0 k3 k2 k1 k0 in
             record {
-              on_left = open_side as_entry blank zuniq_in K el split a lp m i s.on_left u c3 c2 c1 c0 k3 k2 k1 k0;
+              on_left = open_side as_entry zuniq_in K el split a lp m i s.on_left u c3 c2 c1 c0 k3 k2 k1 k0;
               on_right = s.on_right;
               rises_left = subst (Rises K 0 (n_hash K)) (sym z) (Rises-open split K 0 (n_hash K) (as_entry a) l u s.rises_left);
               rises_right = s.rises_right;
@@ -144,13 +133,13 @@ module _ {A C : Type 0} (split : Split A) (as_entry : C → Entry A) (blank : C)
             }
 
         pub State-open_right : Inner (as_entry a) (as_entry b) → (u : (as_entry b).depth < K) → ChildOf as_entry zuniq_in split b 3 c3 → ChildOf as_entry zuniq_in split b 2 c2 → ChildOf as_entry zuniq_in split b 1 c1 → ChildOf as_entry zuniq_in split b 0 c0
-            → State done (side_at (some a) m i false) (side_at (some c0) (n + 3) j false) lp (pushed as_entry blank rp n c3 c2 c1)
+            → State done (side_at (some a) m i false) (side_at (some c0) (n + 3) j false) lp (pushed rp n c3 c2 c1)
         State-open_right t u k3 k2 k1 k0 =
             let r = R (side_at (some b) n j true) rp in
-            let z = open_to_come as_entry blank zuniq_in K er split b rp n j s.on_right u c3 c2 c1 c0 k3 k2 k1 k0 in
+            let z = open_to_come as_entry zuniq_in K er split b rp n j s.on_right u c3 c2 c1 c0 k3 k2 k1 k0 in
             record {
               on_left = s.on_left;
-              on_right = open_side as_entry blank zuniq_in K er split b rp n j s.on_right u c3 c2 c1 c0 k3 k2 k1 k0;
+              on_right = open_side as_entry zuniq_in K er split b rp n j s.on_right u c3 c2 c1 c0 k3 k2 k1 k0;
               rises_left = s.rises_left;
               rises_right = subst (Rises K 0 (n_hash K)) (sym z) (Rises-open split K 0 (n_hash K) (as_entry b) r u s.rises_right);
               whole = ap (λ (o : List (Entry (Seen A))). done ++ o) (ap (λ (r : List (Entry A)). overlay split K (L (side_at (some a) m i false) lp) r) z

@@ -1,5 +1,5 @@
 -- Section 5 of the scope: the walk as code keeps it, over any type C of cells that the code has for entries.
-use Rattle.std.specs.Prelude.{◌≡◌, Bool, true, false, List, ℕ, ◌+◌, ◌-◌, ◌≤◌, ◌<◌, length, get_or}
+use Rattle.std.specs.Prelude.{◌≡◌, Bool, true, false, List, ℕ, ◌+◌, ◌-◌, ◌≤◌, ◌<◌, length, get_or, slice_set}
 use Rattle.std.proofs.Math.Option.{Option, none, some}
 use Rattle.zuniq.specs.Codec.{IsZuniqOf}
 use Rattle.build.specs.Map.{Entry, entry}
@@ -13,6 +13,17 @@ pub data Saw (C : Type 0) : Type 0 where
   saw_left : C → Saw C
   saw_right : C → Saw C
   saw_both : C → C → Saw C
+
+-- whose head is used up when a cell is shown
+abbrev pub takes_left : {C : Type 0} → Saw C → Bool
+takes_left (saw_left a) = true
+takes_left (saw_right b) = false
+takes_left (saw_both a b) = true
+
+abbrev pub takes_right : {C : Type 0} → Saw C → Bool
+takes_right (saw_left a) = false
+takes_right (saw_right b) = true
+takes_right (saw_both a b) = true
 
 -- what a turn does
 pub data Act (C : Type 0) : Type 0 where
@@ -39,6 +50,10 @@ side_start = side_at none 0 0 true
 -- the head used up or not
 abbrev pub used : {C : Type 0} → Bool → At C → At C
 used t s = side_at s.head s.pending s.place t
+
+-- an array of pending cells after three pushes
+abbrev pub pushed : {C : Type 0} → List C → ℕ → C → C → C → List C
+pushed p m c3 c2 c1 = slice_set (slice_set (slice_set p m c3) (m + 1) c2) (m + 2) c1
 
 -- the head split: its first child is the head, and three are pending
 abbrev pub opened : {C : Type 0} → C → At C → At C
@@ -86,11 +101,11 @@ module _ {A C : Type 0} (as_entry : C → Entry A) (zuniq_in : C → ℕ) where
   abbrev pub ChildOf : Split A → C → ℕ → C → Type 0
   ChildOf split a i c = Good c × (as_entry c ≡ child (as_entry a).depth (as_entry a).hash i (split (as_entry a).depth (as_entry a).hash (as_entry a).value i))
 
-  -- x is the entry at place i of the map in zs and vs, if there is one; u is what is read past the end of vs
-  module _ (u : A) (zs : List ℕ) (vs : List A) where
+  -- x is the entry at place i of the map in zs and vs, if there is one
+  module _ (zs : List ℕ) (vs : List A) where
     abbrev pub EntryAt : ℕ → Option C → Type 0
     EntryAt i none = length zs ≤ i
-    EntryAt i (some a) = (i < length zs) × (zuniq_in a ≡ get_or zs i 0) × Good a × ((as_entry a).value ≡ get_or vs i u)
+    EntryAt i (some a) = (i < length zs) × (zuniq_in a ≡ get_or zs i 0) × Good a × ((as_entry a).value ≡ get_or vs i (as_entry a).value)
 
     -- The side r is s with a head: the one that s has, or the last pending cell, or the next entry.
     pub data Advanced (top : C) (s r : At C) : Type 0 where
@@ -98,3 +113,16 @@ module _ {A C : Type 0} (as_entry : C → Entry A) (zuniq_in : C → ℕ) where
       pops : s.taken ≡ true → 0 < s.pending → r ≡ side_at (some top) (s.pending - 1) s.place false → Advanced top s r
       fetches : s.taken ≡ true → s.pending ≤ 0 → (a : C) → EntryAt s.place (some a) → r ≡ side_at (some a) 0 (s.place + 1) false → Advanced top s r
       finishes : s.taken ≡ true → s.pending ≤ 0 → EntryAt s.place none → r ≡ side_at none 0 s.place false → Advanced top s r
+
+-- The head of s, a, has been split: its first child is the head, and the other three are pending.
+pub record Opened {A C : Type 0} (as_entry : C → Entry A) (zuniq_in : C → ℕ) (split : Split A) (a : C) (s : At C) (p : List C) (r : At C) (p' : List C) : Type 0 where
+  pub c3 : C
+  pub c2 : C
+  pub c1 : C
+  pub c0 : C
+  pub third : ChildOf as_entry zuniq_in split a 3 c3
+  pub second : ChildOf as_entry zuniq_in split a 2 c2
+  pub first : ChildOf as_entry zuniq_in split a 1 c1
+  pub zeroth : ChildOf as_entry zuniq_in split a 0 c0
+  pub side : r ≡ opened c0 s
+  pub cells : p' ≡ pushed p s.pending c3 c2 c1

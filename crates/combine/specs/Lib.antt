@@ -4,6 +4,8 @@ pub mod Promises
 pub mod Walk
 pub mod Heads
 pub mod Slices
+pub mod Cells
+pub mod Sinks
 pub mod Counts
 pub mod Densities
 pub mod Pool

@@ -1,6 +1,6 @@
 -- Section 5 of the scope: the pool and product calls. A call's refusals are one definition, the first that applies in the order of
 -- the table "Refusals in checking order", "in each row left map before right"; its answer and the output afterwards are another.
-use Rattle.std.specs.Prelude.{◌||◌, not, List, reverse, ℕ, ◌+◌, max, eqb, ltb, Float, length}
+use Rattle.std.specs.Prelude.{Result, ◌||◌, not, List, reverse, ℕ, ◌+◌, max, eqb, ltb, Float, length}
 use Rattle.std.proofs.Math.Option.{Option}
 use Rattle.std.specs.Float.Ieee.{is_nan}
 use Rattle.refusal.specs.declared.Refusal.{Refusal}
@@ -14,8 +14,7 @@ use Rattle.build.specs.Calls.{answered}
 use Rattle.build.specs.Add.{map_refusal, sum_of}
 use Rattle.build.specs.Counts.{count_calls, counts_added}
 use Rattle.build.specs.Densities.{density_refusal, density_calls, densities_added}
-use Rattle.build.specs.declared.counts.CountsAdded.{CountsAdded}
-use Rattle.build.specs.declared.densities.DensitiesAdded.{DensitiesAdded}
+use Rattle.build.specs.declared.counts.Added.{Added}
 use Rattle.combine.specs.Overlay.{overlay}
 use Rattle.combine.specs.Rules.{kept, split_count, pool_rule, defined_pool, copy_density, product_rule, defined_product}
 use Rattle.combine.specs.Slices.{entries_of}
@@ -77,13 +76,13 @@ pool_refusal P l r M T places values = or_else (pool_input_refusal P l r M T pla
 
 -- "Answer and places after it are as for add": the answer, and the output buffers afterwards, which held zs and vs. K is the result's
 -- depth, the refusal is given if there is one.
-unfoldable pub pool_over : List ℕ → ℕ → Option Refusal → List (Entry ℕ) → List (Entry ℕ) → ℕ → Float → List ℕ → List ℕ → CountsAdded × List ℕ × List ℕ
+unfoldable pub pool_over : List ℕ → ℕ → Option Refusal → List (Entry ℕ) → List (Entry ℕ) → ℕ → Float → List ℕ → List ℕ → Result Added Refusal × List ℕ × List ℕ
 pool_over P K refusal l r M T zs vs =
     let t = answered (count_calls 29 P K M T) refusal (record { number = 0; zuniqs = zs; values = vs }) (reverse (defined_pool (accept_counts 29 P M T) K l r)) in
     (counts_added t.1, t.0.zuniqs, t.0.values)
 
 -- the call
-unfoldable pub pool_counts : List ℕ → Given ℕ → Given ℕ → ℕ → Float → List ℕ → List ℕ → CountsAdded × List ℕ × List ℕ
+unfoldable pub pool_counts : List ℕ → Given ℕ → Given ℕ → ℕ → Float → List ℕ → List ℕ → Result Added Refusal × List ℕ × List ℕ
 pool_counts P l r M T zs vs = pool_over P (result_depth l r) (pool_refusal P l r M T (length zs) (length vs)) (entries l) (entries r) M T zs vs
 
 -- ---- product
@@ -119,11 +118,11 @@ product_refusal P l r M T k places values =
     (or_else (finite_refusal (product_kept k l r))
     (places_refusal places (length (product_kept k l r))))
 
-unfoldable pub product_over : List ℕ → ℕ → Option Refusal → List (Entry Float) → List (Entry Float) → ℕ → Float → Float → List ℕ → List Float → DensitiesAdded × List ℕ × List Float
+unfoldable pub product_over : List ℕ → ℕ → Option Refusal → List (Entry Float) → List (Entry Float) → ℕ → Float → Float → List ℕ → List Float → Result ℕ Refusal × List ℕ × List Float
 product_over P K refusal l r M T k zs vs =
     let t = answered (density_calls P K M T) refusal (record { number = 0; zuniqs = zs; values = vs }) (reverse (defined_product (accept_densities P M T) k K l r)) in
     (densities_added t.1, t.0.zuniqs, t.0.values)
 
 -- the call
-unfoldable pub product_densities : List ℕ → Given Float → Given Float → ℕ → Float → Float → List ℕ → List Float → DensitiesAdded × List ℕ × List Float
+unfoldable pub product_densities : List ℕ → Given Float → Given Float → ℕ → Float → Float → List ℕ → List Float → Result ℕ Refusal × List ℕ × List Float
 product_densities P l r M T k zs vs = product_over P (result_depth l r) (product_refusal P l r M T k (length zs) (length vs)) (entries l) (entries r) M T k zs vs

@@ -1,73 +1,45 @@
-// What a walk of two count maps is made of: cells, sides and turns; and how a cell is split. And what
-// asking for a pool answers.
-ghost use Rattle.std.specs.Prelude.{◌≡◌, ◌<◌};
-ghost use Rattle.combine.specs.Rules.{split_count};
-ghost use Rattle.combine.specs.Heads.{Good, ChildOf};
-ghost use Rattle.combine.specs.Counts.{as_entry, zuniq_in};
+// The rule of the pool, and what asking for a pool answers.
+ghost use Rattle.std.specs.Prelude.{◌≡◌, ◌<◌, ◌≤◌};
+ghost use Rattle.combine.specs.Rules.{split_count, kept_of, pool_rule, pooled_count};
+ghost use Rattle.combine.specs.Heads.{shown_as};
+ghost use Rattle.combine.specs.Cells.{as_entry, saw_of};
+ghost use Rattle.combine.specs.Sinks.{cells_of, Carries};
 
-use refusal::Refusal;
-use zuniq::Zuniq64;
+use crate::by_heads::Rule;
+use crate::cells::{Dhzv, LhsRhsBoth};
 
-// A cell with its zuniq and its count.
+// The rule of the pool: alone kept, both summed.
 #[derive(Clone, Copy)]
-pub struct Dhzv {
-    pub depth: u8,
-    pub hash: u64,
-    pub zuniq: u64,
-    pub value: u32,
-}
+pub struct Pool;
 
-// An overlay cell as the rule sees it.
-#[derive(Clone, Copy)]
-pub enum LhsRhsBoth {
-    Left(Dhzv),
-    Right(Dhzv),
-    Both(Dhzv, Dhzv),
-}
+impl Rule for Pool {
+    type Value = u32;
 
-// The next cell of a side.
-#[derive(Clone, Copy)]
-pub enum Head {
-    Cell(Dhzv),
-    End,
-}
+    ghost split = { λ _. split_count };
 
-// A side of the walk, apart from the array of its pending cells.
-#[derive(Clone, Copy)]
-pub struct Side {
-    pub head: Head,
-    // How many cells are pending.
-    pub pending: usize,
-    // Where the next entry of the map is.
-    pub place: usize,
-    // The head has been used up.
-    pub taken: bool,
-}
+    ghost keeps = { λ _. pool_rule };
 
-// What a turn of the walk does. Each way of showing a cell has a case and an arm of its own: one case
-// that held an LhsRhsBoth would send every cell through memory.
-#[derive(Clone, Copy)]
-pub enum Turn {
-    Left(Dhzv),
-    Right(Dhzv),
-    Both(Dhzv, Dhzv),
-    OpenLeft(Dhzv),
-    OpenRight(Dhzv),
-    Stop,
-}
+    ghost sees = { λ _ e. pooled_count e.value ≤ 4294967295 };
 
-// Child i of a cell that is split.
-pub fn child(parent: Dhzv, i: u32) -> Dhzv
-    requires { Good as_entry zuniq_in parent × (parent.depth < 29) × (i < 4) }
-    ensures { ChildOf as_entry zuniq_in split_count parent i result }
-{
-    let depth = parent.depth + 1;
-    let hash = 4 * parent.hash + i as u64;
-    Dhzv {
-        depth,
-        hash,
-        zuniq: Zuniq64::to_zuniq_unchecked(depth, hash),
-        value: part_of(parent.value, parent.hash, i),
+    fn part(self, depth: u64, hash: u64, value: u32, i: u32) -> u32
+        requires { i < 4 }
+        ensures { result ≡ split_count depth hash value i }
+    {
+        part_of(value, hash, i)
+    }
+
+    fn keep(self, seen: LhsRhsBoth<u32>) -> Option<Dhzv<u32>>
+        requires { pooled_count (shown_as as_entry (saw_of seen)).value ≤ 4294967295 }
+        ensures { (cells_of result ≡ kept_of pool_rule (shown_as as_entry (saw_of seen))) × Carries (saw_of seen) result }
+    {
+        match seen {
+            LhsRhsBoth::Left(a) => Some(a),
+            LhsRhsBoth::Right(b) => Some(b),
+            LhsRhsBoth::Both(a, b) => Some(Dhzv {
+                value: a.value + b.value,
+                ..a
+            }),
+        }
     }
 }
 
@@ -88,7 +60,7 @@ fn part_of(count: u32, parent_hash: u64, i: u32) -> u32
 }
 
 // What a pool costs and comes to.
-#[derive(Clone, Copy)]
+#[derive(Clone, Copy, Debug, PartialEq, Eq)]
 pub struct Figures {
     // Cells of the overlay: the places that the output needs.
     pub cells: usize,
@@ -96,11 +68,4 @@ pub struct Figures {
     pub entries: usize,
     // The sum of their counts.
     pub total: u32,
-}
-
-// What asking answers.
-#[derive(Clone, Copy)]
-pub enum Asked {
-    Answer(Figures),
-    Refused(Refusal),
 }

@@ -32,7 +32,7 @@ module _ (K : ℕ) where
   entries_fewer [] = omega arith
   entries_fewer (z ∷ zs) = omega (arith, with_range-fewer (decode K z) (entry_ranges K zs), entries_fewer zs)
 
-  -- "The numbers of a coverage: [..] at most as many as entries"
+  -- A coverage has at most as many ranges as the map has entries.
   pub coverage_fewer : (zs : List ℕ) → length (coverage_of K zs) ≤ length zs
   unfolding coverage_of
   coverage_fewer zs = omega (arith, join_fewer (entry_ranges K zs), entries_fewer zs)

@@ -43,7 +43,7 @@ common_with-exact r (q ∷ qs) k = go (ltb (common r q).from (common r q).to) re
       λ m. ⊎_elim (λ n. absurd (let c = (in_common_iff r q k).1 (m.0, n) in omega (arith, c.0, c.1, ltb-false (common r q).from (common r q).to e))) (λ n. more.1 (m.0, n)) m.1,
     )
 
--- "The coverage of a clip is the intersection": the hashes that are in both.
+-- The intersection has the hashes that are in both.
 pub intersection-exact : (rs qs : List Range) (k : ℕ) → InRanges (intersection rs qs) k ↔ (InRanges rs k × InRanges qs k)
 unfolding intersection
 intersection-exact [] qs k = (absurd, λ m. m.0)

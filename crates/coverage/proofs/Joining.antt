@@ -63,8 +63,8 @@ pub record Joining (zs : List ℕ) (i n last : ℕ) (s : List Range) : Type 0 wh
   pub ends : LastEnd s last
   pub goal : coverage_of 29 zs ≡ unload s (join_touching (entry_ranges 29 (drop i zs)))
 
-pub renumber : {zs : List ℕ} {i n m last : ℕ} {s : List Range} → m ≡ n → Joining zs i n last s → Joining zs i m last s
-renumber e j = rw e j
+pub renumber : {zs : List ℕ} {i n m last end : ℕ} {s : List Range} → m ≡ n → end ≡ last → Joining zs i n last s → Joining zs i m end s
+renumber e f j = rw (e, f) j
 
 pub Joining-start : (zs : List ℕ) → Joining zs 0 0 18446744073709551615 []
 unfolding coverage_of

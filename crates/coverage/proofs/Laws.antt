@@ -12,7 +12,7 @@ use Rattle.refusal.proofs.Checks.{or_else_none}
 use Rattle.coverage.specs.Ranges.{Range, ranges_of, padded, from_of, to_of}
 use Rattle.coverage.specs.Coverage.{coverage_of, coverage_input_refusal, coverage_refusal, covered_or, coverage_call}
 use Rattle.coverage.specs.Promises.{WritesCoverage}
-use Rattle.coverage.specs.declared.Covered.{Covered}
+use Rattle.std.specs.Prelude.{Result, Ok, Err}
 use Rattle.coverage.proofs.Exact.{coverage_exact, coverage_parted, coverage_fewer}
 use Rattle.coverage.proofs.Call.{passes_all}
 use lib.Dec.{ltb}
@@ -29,26 +29,26 @@ unfolding padded
 front x places l = take-append_seam l _
 
 -- the number that is answered
-abbrev ranges_in : Covered → ℕ
-ranges_in (Covered.Ranges n) = n
-ranges_in (Covered.Refused r) = 0
+abbrev ranges_in : Result ℕ Refusal → ℕ
+ranges_in (Ok n) = n
+ranges_in (Err r) = 0
 
-abbrev is_ranges : Covered → Bool
-is_ranges (Covered.Ranges n) = true
-is_ranges (Covered.Refused r) = false
+abbrev is_ranges : Result ℕ Refusal → Bool
+is_ranges (Ok n) = true
+is_ranges (Err r) = false
 
 -- the answer, and the output afterwards
 abbrev Answered : Type 0
-Answered = Covered × List ℕ × List ℕ
+Answered = Result ℕ Refusal × List ℕ × List ℕ
 
 module _ (D : ℕ) (zs ss es : List ℕ) where
-  accepted : (o : Option Refusal) (rs : List Range) (n : ℕ) (xs ys : List ℕ) → covered_or o rs ss es ≡ (Covered.Ranges n, xs, ys)
+  accepted : (o : Option Refusal) (rs : List Range) (n : ℕ) (xs ys : List ℕ) → covered_or o rs ss es ≡ (Ok n, xs, ys)
       → (o ≡ none) × (n ≡ length rs) × (xs ≡ padded 0 (length ss) (map from_of rs)) × (ys ≡ padded 0 (length es) (map to_of rs))
   accepted (some r) rs n xs ys e = absurd (false≢true (ap (λ (t : Answered). is_ranges t.0) e))
   accepted none rs n xs ys e = (refl, sym (ap (λ (t : Answered). ranges_in t.0) e), sym (ap (λ (t : Answered). t.1) e), sym (ap (λ (t : Answered). t.2) e))
 
   -- "exactly the depth-29 cells that lie in an entry, as rising ranges, none touching the next"
-  pub coverage_written : (n : ℕ) (xs ys : List ℕ) → coverage_call D zs ss es ≡ (Covered.Ranges n, xs, ys) → WritesCoverage zs n xs ys
+  pub coverage_written : (n : ℕ) (xs ys : List ℕ) → coverage_call D zs ss es ≡ (Ok n, xs, ys) → WritesCoverage zs n xs ys
   unfolding coverage_call coverage_refusal
   coverage_written n xs ys e =
       let rs = coverage_of 29 zs in

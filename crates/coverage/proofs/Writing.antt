@@ -15,8 +15,8 @@ pub record Writing (zs ss₀ es₀ ss es : List ℕ) (i n last : ℕ) : Type 0 w
   pub starts : length ss ≡ length ss₀
   pub ends : length es ≡ length es₀
 
-pub as_written : {zs ss₀ es₀ ss es ss' es' : List ℕ} {i n m last : ℕ} → ss' ≡ ss → es' ≡ es → m ≡ n → Writing zs ss₀ es₀ ss es i n last → Writing zs ss₀ es₀ ss' es' i m last
-as_written a b e w = rw (a, b, e) w
+pub as_written : {zs ss₀ es₀ ss es ss' es' : List ℕ} {i n m last end : ℕ} → ss' ≡ ss → es' ≡ es → m ≡ n → end ≡ last → Writing zs ss₀ es₀ ss es i n last → Writing zs ss₀ es₀ ss' es' i m end
+as_written a b e f w = rw (a, b, e, f) w
 
 module _ (zs ss₀ es₀ : List ℕ) where
   pub writing_start : Writing zs ss₀ es₀ ss₀ es₀ 0 0 18446744073709551615

@@ -1,6 +1,6 @@
 -- Note 6 of document 02: "From a map's depth and zuniqs, write its coverage". The call's refusals are one definition, the first that
 -- applies in the order of the table; its answer and both output buffers afterwards are another.
-use Rattle.std.specs.Prelude.{not, List, [], ◌∷◌, map, ℕ, eqb, ltb, length}
+use Rattle.std.specs.Prelude.{Result, Ok, Err, not, List, [], ◌∷◌, map, ℕ, eqb, ltb, length}
 use Rattle.std.proofs.Math.Option.{Option, none, some}
 use Rattle.refusal.specs.declared.Refusal.{Refusal}
 use Rattle.zuniq.specs.Cells.{start, end}
@@ -10,7 +10,6 @@ use Rattle.mom.specs.Map.{first_fault}
 use Rattle.refusal.specs.Checks.{or_else, refused_if}
 use Rattle.build.specs.Add.{map_refusal}
 use Rattle.coverage.specs.Ranges.{Range, range, join_touching, padded, from_of, to_of}
-use Rattle.coverage.specs.declared.Covered.{Covered}
 
 -- the range of the cell of a zuniq, in front of others; what is no zuniq has none
 abbrev pub with_range : ℕ → Decoded → List Range → List Range
@@ -41,9 +40,9 @@ coverage_refusal D zs starts ends =
     or_else (coverage_input_refusal D zs starts ends) (refused_if (ltb starts (length (coverage_of 29 zs))) Refusal.NoSpace)
 
 -- the answer, and the output afterwards, which held ss and es: the ranges, "and places after them are 0"
-abbrev pub covered_or : Option Refusal → List Range → List ℕ → List ℕ → Covered × List ℕ × List ℕ
-covered_or (some r) rs ss es = (Covered.Refused r, ss, es)
-covered_or none rs ss es = (Covered.Ranges (length rs), padded 0 (length ss) (map from_of rs), padded 0 (length es) (map to_of rs))
+abbrev pub covered_or : Option Refusal → List Range → List ℕ → List ℕ → Result ℕ Refusal × List ℕ × List ℕ
+covered_or (some r) rs ss es = (Err r, ss, es)
+covered_or none rs ss es = (Ok (length rs), padded 0 (length ss) (map from_of rs), padded 0 (length es) (map to_of rs))
 
-unfoldable pub coverage_call : ℕ → List ℕ → List ℕ → List ℕ → Covered × List ℕ × List ℕ
+unfoldable pub coverage_call : ℕ → List ℕ → List ℕ → List ℕ → Result ℕ Refusal × List ℕ × List ℕ
 coverage_call D zs ss es = covered_or (coverage_refusal D zs (length ss) (length es)) (coverage_of 29 zs) ss es

@@ -20,16 +20,8 @@ ghost use Rattle.coverage.specs.Coverage.{coverage_of, coverage_input_refusal, c
 ghost use Rattle.coverage.specs.Promises.{RangeOf, AreZuniqs, Stand};
 
 use build::check_map;
-use build::free::clear_zuniqs;
-use refusal::{Check, Refusal};
-use zuniq::{Zuniq64, n_hash_unchecked};
-
-// What writing a coverage answers: the number of ranges, or why it is refused.
-#[derive(Clone, Copy)]
-pub enum Covered {
-    Ranges(usize),
-    Refused(Refusal),
-}
+use refusal::Refusal;
+use zuniq::{ZUniqHashT, n_hash_unchecked};
 
 // The hashes of the largest depth from a start to below an end.
 #[derive(Clone, Copy)]
@@ -38,35 +30,40 @@ pub struct HashRange {
     pub end: u64,
 }
 
-// No entry starts here.
+// No entry starts here. Where there is no range yet, one comparison tells that the next is apart from
+// it; of an Option it would take two.
 const NO_END: u64 = u64::MAX;
 
-// Writes the coverage of a map into two output buffers.
-pub fn coverage(depth: u8, zuniqs: &[u64], starts: &mut [u64], ends: &mut [u64]) -> Covered
+// Writes the coverage of a map into two output buffers, as C hands them.
+pub fn coverage(
+    depth: u8,
+    zuniqs: &[u64],
+    starts: &mut [u64],
+    ends: &mut [u64],
+) -> Result<usize, Refusal>
     ensures { (result, starts.new, ends.new) ≡ coverage_call depth zuniqs.now starts.old ends.old }
 {
-    if let Check::Refused(refusal) = check(depth, zuniqs, starts.len(), ends.len()) {
-        return Covered::Refused(refusal);
-    }
+    check(depth, zuniqs, starts.len(), ends.len())?;
     let ranges = count_ranges(zuniqs);
     if starts.len() < ranges {
-        return Covered::Refused(Refusal::NoSpace);
+        return Err(Refusal::NoSpace);
     }
     write_ranges(zuniqs, starts, ends);
-    clear_zuniqs(&mut starts[ranges..]);
-    clear_zuniqs(&mut ends[ranges..]);
-    Covered::Ranges(ranges)
+    starts[ranges..].fill(0);
+    ends[ranges..].fill(0);
+    Ok(ranges)
 }
 
 // All that can be refused before the ranges are counted, in the order of the table.
-fn check(depth: u8, zuniqs: &[u64], starts: usize, ends: usize) -> Check
+#[tactic(auto, unfolding(crate::specs::Coverage::coverage_input_refusal))]
+fn check(depth: u8, zuniqs: &[u64], starts: usize, ends: usize) -> Result<(), Refusal>
     ensures { result ≡ check_of (coverage_input_refusal depth zuniqs.now starts ends) }
 {
-    if depth > Zuniq64::MAX_DEPTH {
-        return Check::Refused(Refusal::DepthOutOfRange);
+    if depth > u64::MAX_DEPTH {
+        return Err(Refusal::DepthOutOfRange);
     }
     if starts != ends {
-        return Check::Refused(Refusal::LengthMismatch);
+        return Err(Refusal::LengthMismatch);
     }
     check_map(depth, zuniqs)
 }
@@ -78,14 +75,12 @@ fn count_ranges(zuniqs: &[u64]) -> usize
 {
     let mut n: usize = 0;
     let mut end_before = NO_END;
-    let mut i = 0;
-    while i < zuniqs.len() {
-        let range = entry_range(zuniqs[i]);
+    for &zuniq in zuniqs {
+        let range = entry_range(zuniq);
         if range.start != end_before {
             n += 1;
         }
         end_before = range.end;
-        i += 1;
     }
     n
 }
@@ -97,9 +92,8 @@ fn write_ranges(zuniqs: &[u64], starts: &mut [u64], ends: &mut [u64])
 {
     let mut n: usize = 0;
     let mut end_before = NO_END;
-    let mut i = 0;
-    while i < zuniqs.len() {
-        let range = entry_range(zuniqs[i]);
+    for &zuniq in zuniqs {
+        let range = entry_range(zuniq);
         if range.start == end_before {
             ends[n - 1] = range.end;
         } else {
@@ -108,7 +102,6 @@ fn write_ranges(zuniqs: &[u64], starts: &mut [u64], ends: &mut [u64])
             n += 1;
         }
         end_before = range.end;
-        i += 1;
     }
 }
 
@@ -126,21 +119,18 @@ pub fn entry_range(zuniq: u64) -> HashRange
 }
 
 // Row 14, of a given coverage.
-pub fn check_ranges(starts: &[u64], ends: &[u64]) -> Check
+pub fn check_ranges(starts: &[u64], ends: &[u64]) -> Result<(), Refusal>
     requires { length starts.now ≡ length ends.now }
     ensures { result ≡ check_of (ranges_refusal (n_hash 29) 0 0 (ranges_of starts.now ends.now)) }
 {
-    let sky = n_hash_unchecked(Zuniq64::MAX_DEPTH);
+    let sky = n_hash_unchecked(u64::MAX_DEPTH);
     let mut least = 0;
-    let mut i = 0;
-    while i < starts.len() {
-        let start = starts[i];
+    for (i, &start) in starts.iter().enumerate() {
         let end = ends[i];
         if end <= start || end > sky || start < least {
-            return Check::Refused(Refusal::InvalidRange(i));
+            return Err(Refusal::InvalidRange(i));
         }
         least = end + 1;
-        i += 1;
     }
-    Check::Passed
+    Ok(())
 }

@@ -9,28 +9,7 @@ ghost use Rattle.density.specs.Densities.{density_of_count, density_of_pattern, 
 
 use merger::invalid_density;
 use refusal::Refusal;
-use zuniq::Zuniq64;
-
-// The density of a count.
-#[derive(Clone, Copy)]
-pub enum CountDensity {
-    Density(f64),
-    Refused(Refusal),
-}
-
-// The density of a pattern, or that there is none.
-#[derive(Clone, Copy)]
-pub enum PatternDensity {
-    Density(f64),
-    Nothing,
-}
-
-// The pattern of a density, or that there is none.
-#[derive(Clone, Copy)]
-pub enum DensityPattern {
-    Pattern(u64),
-    Nothing,
-}
+use zuniq::ZUniqHashT;
 
 const PI: f64 = 3.141592653589793;
 
@@ -40,35 +19,39 @@ const INFINITE: u64 = 0x7ff0_0000_0000_0000;
 
 // A count by the area of a cell: the sky, 4 pi, in N(depth) parts. Each step is rounded once, in the
 // order of the source's `from_counts_to_densities`.
-pub fn density_of_count(depth: u8, count: u32) -> CountDensity
+#[tactic(auto, unfolding(crate::specs::Densities::density_of_count))]
+pub fn density_of_count(depth: u8, count: u32) -> Result<f64, Refusal>
     ensures { result ≡ density_of_count 29 count depth }
 {
-    if depth > Zuniq64::MAX_DEPTH {
-        return CountDensity::Refused(Refusal::DepthOutOfRange);
+    if depth > u64::MAX_DEPTH {
+        return Err(Refusal::DepthOutOfRange);
     }
     let cells = std::num::nearest_u64_to_f64(zuniq::n_hash_unchecked(depth));
-    CountDensity::Density(count as f64 / (4.0 * PI / cells))
+    Ok(count as f64 / (4.0 * PI / cells))
 }
 
-// NaNs are told by their pattern, before there is an f64: `from_bits` is not defined at them.
-pub fn density_of_pattern(pattern: u64) -> PatternDensity
+// The density of a pattern, if it is one. NaNs are told by their pattern, before there is an f64: `from_bits` is not defined at them.
+#[tactic(auto, using(crate::proofs::Densities::nan_pattern_none, crate::proofs::Densities::no_nan_pattern), unfolding(crate::specs::Densities::density_of_pattern))]
+pub fn density_of_pattern(pattern: u64) -> Option<f64>
     ensures { result ≡ density_of_pattern pattern }
 {
     if pattern % SIGN > INFINITE {
-        return PatternDensity::Nothing;
+        return None;
     }
     let density = f64::from_bits(pattern);
     if invalid_density(density) {
-        return PatternDensity::Nothing;
+        return None;
     }
-    PatternDensity::Density(density)
+    Some(density)
 }
 
-pub fn pattern_of_density(x: f64) -> DensityPattern
+// The pattern of a density, if it is one.
+#[tactic(auto, using(crate::proofs::Densities::is_pattern), unfolding(crate::specs::Densities::pattern_of_density))]
+pub fn pattern_of_density(x: f64) -> Option<u64>
     ensures { result ≡ pattern_of_density x }
 {
     if invalid_density(x) {
-        return DensityPattern::Nothing;
+        return None;
     }
-    DensityPattern::Pattern(f64::to_bits(x))
+    Some(f64::to_bits(x))
 }

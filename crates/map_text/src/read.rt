@@ -1,133 +1,106 @@
 // Reading the text: a line `D,M,T`, then lines `hash,count`.
-ghost use Rattle.std.specs.Prelude.{◌≡◌, length};
-ghost use Rattle.text.specs.Text.{position};
-ghost use Rattle.map_text.specs.Lines.{settings_line, cell_line, first_cell, cells};
-ghost use Rattle.map_text.specs.Steps.{CellsAre};
+ghost use Rattle.std.specs.Prelude.{◌≡◌, length, MatchOption};
+ghost use Rattle.map_text.specs.Lines.{settings_line, cell_line, cells};
+ghost use Rattle.map_text.specs.Steps.{FirstCellIs, CellsAre};
 
-use text::{COMMA, LF, Number, find, read_number};
+use text::{COMMA, LF, read_number, split_once};
 
 // The most cells that a text holds.
 pub const MAX_CELLS: usize = 2048;
 
-const MAX_COUNT: u64 = 4294967295;
+const MAX_DEPTH: u64 = u8::MAX as u64;
 
-// A line `D,M,T`, with T in thousandths.
+const MAX_COUNT: u64 = u32::MAX as u64;
+
+// What a line `D,M,T` says, with T in thousandths.
 #[derive(Clone, Copy)]
-pub enum SettingsLine {
-    Settings {
-        depth: u8,
-        depth_threshold: u8,
-        thousandths: u32,
-    },
-    Unreadable,
+pub struct Settings {
+    pub depth: u8,
+    pub depth_threshold: u8,
+    pub thousandths: u32,
 }
 
-// A line `hash,count`.
+// What a line `hash,count` says.
 #[derive(Clone, Copy)]
-pub enum CellLine {
-    Cell { hash: u64, count: u32 },
-    Unreadable,
+pub struct CountedCell {
+    pub hash: u64,
+    pub count: u32,
 }
 
-// The lines behind the first: how many cells they hold, or the number of the first unreadable one.
+// The first line that can't be read, counted from 1.
 #[derive(Clone, Copy)]
-pub enum CellLines {
-    Cells(usize),
-    Unreadable(usize),
+pub struct UnreadableLine {
+    pub line: usize,
 }
 
 // Reads a line `D,M,T`, given without its LF.
-pub fn read_settings(line: &[u8]) -> SettingsLine
+#[tactic(auto, using(crate::proofs::Lines::lines))]
+pub fn read_settings(line: &[u8]) -> Option<Settings>
     ensures { result ≡ settings_line line.now }
 {
-    let first = find(line, COMMA);
-    if first == line.len() {
-        return SettingsLine::Unreadable;
-    }
-    let rest = &line[first + 1..];
-    let second = find(rest, COMMA);
-    if second == rest.len() {
-        return SettingsLine::Unreadable;
-    }
-    let Number::Value(depth) = read_number(&line[..first], 255) else {
-        return SettingsLine::Unreadable;
-    };
-    let Number::Value(depth_threshold) = read_number(&rest[..second], 255) else {
-        return SettingsLine::Unreadable;
-    };
-    let Number::Value(thousandths) = read_number(&rest[second + 1..], MAX_COUNT) else {
-        return SettingsLine::Unreadable;
-    };
-    SettingsLine::Settings {
+    let (depth, rest) = split_once(line, COMMA)?;
+    let (depth_threshold, thousandths) = split_once(rest, COMMA)?;
+    let depth = read_number(depth, MAX_DEPTH)?;
+    let depth_threshold = read_number(depth_threshold, MAX_DEPTH)?;
+    let thousandths = read_number(thousandths, MAX_COUNT)?;
+    Some(Settings {
         depth: depth as u8,
         depth_threshold: depth_threshold as u8,
         thousandths: thousandths as u32,
-    }
+    })
 }
 
 // Reads a line `hash,count`, given without its LF.
-fn read_cell(line: &[u8]) -> CellLine
+#[tactic(auto, using(crate::proofs::Lines::lines))]
+fn read_cell(line: &[u8]) -> Option<CountedCell>
     ensures { result ≡ cell_line line.now }
 {
-    let comma = find(line, COMMA);
-    if comma == line.len() {
-        return CellLine::Unreadable;
-    }
-    let Number::Value(hash) = read_number(&line[..comma], u64::MAX) else {
-        return CellLine::Unreadable;
-    };
-    let Number::Value(count) = read_number(&line[comma + 1..], MAX_COUNT) else {
-        return CellLine::Unreadable;
-    };
-    CellLine::Cell {
+    let (hash, count) = split_once(line, COMMA)?;
+    let hash = read_number(hash, u64::MAX)?;
+    let count = read_number(count, MAX_COUNT)?;
+    Some(CountedCell {
         hash,
         count: count as u32,
-    }
+    })
 }
 
-// Reads the line that a text begins with.
-fn read_first_cell(text: &[u8], end: usize) -> CellLine
-    requires { end ≡ position 10 text.now }
-    ensures { result ≡ first_cell text.now }
+// Reads the line that a text begins with, and hands out what stands behind it. A line that no LF
+// ends may have lost digits.
+#[tactic(auto, using(crate::proofs::Lines::first_unended))]
+fn read_first_cell(text: &[u8]) -> Option<(CountedCell, &[u8])>
+    ensures { FirstCellIs text.now result }
 {
-    // A line that no LF ends may have lost digits.
-    if end == text.len() {
-        return CellLine::Unreadable;
-    }
-    read_cell(&text[..end])
+    let (line, behind) = split_once(text, LF)?;
+    let cell = read_cell(line)?;
+    Some((cell, behind))
 }
 
-// Reads the lines behind the first into two buffers.
+// Reads the lines behind the first into two buffers, which the add call takes apart, and answers how
+// many cells they hold.
 pub fn read_cells(
     text: &[u8],
     hashes: &mut [u64; MAX_CELLS],
     counts: &mut [u32; MAX_CELLS],
-) -> CellLines
+) -> Result<usize, UnreadableLine>
     ensures { CellsAre (cells 2048 2 text.now) result hashes.old counts.old hashes.new counts.new }
 {
-    read_cell_lines(text, hashes, counts)
-}
-
-fn read_cell_lines(text: &[u8], hashes: &mut [u64], counts: &mut [u32]) -> CellLines
-    requires { (length hashes.old ≡ 2048) × (length counts.old ≡ 2048) }
-    ensures { CellsAre (cells 2048 2 text.now) result hashes.old counts.old hashes.new counts.new }
-{
-    let mut n = 0;
-    let mut at = 0;
-    while at < text.len() {
+    let mut rest = text;
+    for n in 0..MAX_CELLS {
+        if rest.is_empty() {
+            return Ok(n);
+        }
         // Line 1 holds the settings, and lines count from 1.
         let line = n + 2;
-        if n == MAX_CELLS {
-            return CellLines::Unreadable(line);
-        }
-        let end = find(&text[at..], LF);
-        let CellLine::Cell { hash, count } = read_first_cell(&text[at..], end) else {
-            return CellLines::Unreadable(line);
-        };
-        hashes[n] = hash;
-        counts[n] = count;
-        n += 1;
-        at += end + 1;
+        let (cell, behind) = read_first_cell(rest).ok_or(UnreadableLine { line })?;
+        hashes[n] = cell.hash;
+        counts[n] = cell.count;
+        rest = behind;
     }
-    CellLines::Cells(n)
+    if rest.is_empty() {
+        Ok(MAX_CELLS)
+    } else {
+        Err(UnreadableLine {
+            line: MAX_CELLS + 2,
+        })
+    }
 }

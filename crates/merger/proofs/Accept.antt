@@ -9,9 +9,8 @@ use borrow.Author.Tests.{lt-leb}
 use Rattle.zuniq.proofs.Basics.{and_is_true}
 use Rattle.protection.specs.Protected.{is_protected}
 use Rattle.merger.specs.Floats.{◌⊘◌, 4·0}
-use Rattle.merger.specs.Merge.{sum_of, chi_of_counts, merge_by_chi, blank, merge_counts, merged_count, accept_counts, chi_of_densities, merge_densities_by_chi, merge_densities_with, merge_densities, merged_density, accept_densities}
-use Rattle.merger.specs.declared.CountMerge.{CountMerge}
-use Rattle.merger.specs.declared.DensityMerge.{DensityMerge}
+use Rattle.merger.specs.Merge.{sum_of, chi_of_counts, merge_by_chi, blank, merge_counts, merged, accept_counts, chi_of_densities, merge_densities_by_chi, merge_densities_with, merge_densities, accept_densities}
+use Rattle.merger.specs.declared.Merge.{Merge}
 use Rattle.merger.proofs.Floats.{lt_self}
 use Rattle.merger.proofs.Blank.{sum_of_blank, not_blank}
 
@@ -32,30 +31,29 @@ given_from_M M p b x v =
 none_below_M : {A : Type 0} (M p : ℕ) (b : Bool) (x : A) → p < M → cond (leb M p && b) (some x) none ≡ none
 none_below_M M p b x l = rw (lt-leb M p l)
 
+-- There is a merged value exactly where the four are merged, and none exactly where they are kept.
+merged-iff : {V : Type 0} (r : Merge V) (v : V) → (merged r ≡ some v) ↔ (r ≡ Merge.Merged v)
+merged-iff (Merge.Merged w) v = (λ e. cc, λ e. cc)
+merged-iff (Merge.Kept chi) v = (λ e. absurd (none-ne-some v e), λ e. cc)
+
+kept_iff : {V : Type 0} (r : Merge V) → (merged r ≡ none) ↔ ((chi : Float) × (r ≡ Merge.Kept chi))
+kept_iff (Merge.Merged v) = (λ e. absurd (some-ne-none v e), λ k. let e = k.1 in cc)
+kept_iff (Merge.Kept chi) = (λ e. (chi, refl), λ k. refl)
+
 -- ---- counts
-merged_count-iff : (r : CountMerge) (n : ℕ) → (merged_count r ≡ some n) ↔ (r ≡ CountMerge.Merged n)
-unfolding merged_count
-merged_count-iff (CountMerge.Merged m) n = (λ e. cc, λ e. cc)
-merged_count-iff (CountMerge.Kept chi) n = (λ e. absurd (none-ne-some n e), λ e. cc)
-
-kept_counts_iff : (r : CountMerge) → (merged_count r ≡ none) ↔ ((chi : Float) × (r ≡ CountMerge.Kept chi))
-unfolding merged_count
-kept_counts_iff (CountMerge.Merged m) = (λ e. absurd (some-ne-none m e), λ k. let e = k.1 in cc)
-kept_counts_iff (CountMerge.Kept chi) = (λ e. (chi, refl), λ k. refl)
-
 module _ (K : ℕ) (P : List ℕ) (M : ℕ) (T : Float) (p h n0 n1 n2 n3 : ℕ) where
   -- Counts are accepted, as n, exactly where the merger answers `Merged n`.
-  pub accept_counts-iff_merged : (n : ℕ) → (accept_counts K P M T p h n0 n1 n2 n3 ≡ some n) ↔ (merge_counts K P M T p h n0 n1 n2 n3 ≡ CountMerge.Merged n)
+  pub accept_counts-iff_merged : (n : ℕ) → (accept_counts K P M T p h n0 n1 n2 n3 ≡ some n) ↔ (merge_counts K P M T p h n0 n1 n2 n3 ≡ Merge.Merged n)
   unfolding accept_counts
-  accept_counts-iff_merged n = merged_count-iff (merge_counts K P M T p h n0 n1 n2 n3) n
+  accept_counts-iff_merged n = merged-iff (merge_counts K P M T p h n0 n1 n2 n3) n
 
   -- They are not accepted exactly where it answers `Kept`.
-  pub reject_counts_iff_kept : (accept_counts K P M T p h n0 n1 n2 n3 ≡ none) ↔ ((chi : Float) × (merge_counts K P M T p h n0 n1 n2 n3 ≡ CountMerge.Kept chi))
+  pub reject_counts_iff_kept : (accept_counts K P M T p h n0 n1 n2 n3 ≡ none) ↔ ((chi : Float) × (merge_counts K P M T p h n0 n1 n2 n3 ≡ Merge.Kept chi))
   unfolding accept_counts
-  reject_counts_iff_kept = kept_counts_iff (merge_counts K P M T p h n0 n1 n2 n3)
+  reject_counts_iff_kept = kept_iff (merge_counts K P M T p h n0 n1 n2 n3)
 
   pub accept_counts-is : accept_counts K P M T p h n0 n1 n2 n3 ≡ cond (leb M p && (not (is_protected K P p h) && (blank n0 n1 n2 n3 || lt (chi_of_counts n0 n1 n2 n3) T))) (some (n0 + n1 + n2 + n3)) none
-  unfolding accept_counts merge_counts merge_by_chi merged_count
+  unfolding accept_counts merge_counts merge_by_chi
   accept_counts-is = go (leb M p) (blank n0 n1 n2 n3) (is_protected K P p h) (lt (chi_of_counts n0 n1 n2 n3) T) (sum_of_blank n0 n1 n2 n3)
     where
       chi : Float
@@ -65,7 +63,7 @@ module _ (K : ℕ) (P : List ℕ) (M : ℕ) (T : Float) (p h n0 n1 n2 n3 : ℕ) 
       sum = n0 + n1 + n2 + n3
 
       go : (deep empty listed below : Bool) → (empty ≡ true → sum ≡ 0)
-          → merged_count (cond listed (CountMerge.Kept chi) (cond (deep && empty) (CountMerge.Merged 0) (cond (deep && below) (CountMerge.Merged sum) (CountMerge.Kept chi))))
+          → merged (cond listed (Merge.Kept chi) (cond (deep && empty) (Merge.Merged 0) (cond (deep && below) (Merge.Merged sum) (Merge.Kept chi))))
           ≡ cond (deep && (not listed && (empty || below))) (some sum) none
       go true empty true below z = refl
       go true true false below z = ap some (sym (z refl))
@@ -95,29 +93,19 @@ counts_kept_at_chi K P M p h n0 n1 n2 n3 l =
     accept_counts-is K P M chi p h n0 n1 n2 n3 ∙ rw (not_blank n0 n1 n2 n3 l, lt_self chi, and-false (not (is_protected K P p h)), and-false (leb M p))
 
 -- ---- densities
-merged_density-iff : (r : DensityMerge) (m : Float) → (merged_density r ≡ some m) ↔ (r ≡ DensityMerge.Merged m)
-unfolding merged_density
-merged_density-iff (DensityMerge.Merged n) m = (λ e. cc, λ e. cc)
-merged_density-iff (DensityMerge.Kept chi) m = (λ e. absurd (none-ne-some m e), λ e. cc)
-
-kept_densities_iff : (r : DensityMerge) → (merged_density r ≡ none) ↔ ((chi : Float) × (r ≡ DensityMerge.Kept chi))
-unfolding merged_density
-kept_densities_iff (DensityMerge.Merged m) = (λ e. absurd (some-ne-none m e), λ k. let e = k.1 in cc)
-kept_densities_iff (DensityMerge.Kept chi) = (λ e. (chi, refl), λ k. refl)
-
 module _ (P : List ℕ) (M : ℕ) (T : Float) (p h : ℕ) (m0 m1 m2 m3 : Float) where
   -- Densities are accepted, as m, exactly where the merger answers `Merged m`.
-  pub accept_densities-iff_merged : (m : Float) → (accept_densities P M T p h m0 m1 m2 m3 ≡ some m) ↔ (merge_densities P M T p h m0 m1 m2 m3 ≡ DensityMerge.Merged m)
+  pub accept_densities-iff_merged : (m : Float) → (accept_densities P M T p h m0 m1 m2 m3 ≡ some m) ↔ (merge_densities P M T p h m0 m1 m2 m3 ≡ Merge.Merged m)
   unfolding accept_densities
-  accept_densities-iff_merged m = merged_density-iff (merge_densities P M T p h m0 m1 m2 m3) m
+  accept_densities-iff_merged m = merged-iff (merge_densities P M T p h m0 m1 m2 m3) m
 
   -- They are not accepted exactly where it answers `Kept`.
-  pub reject_densities_iff_kept : (accept_densities P M T p h m0 m1 m2 m3 ≡ none) ↔ ((chi : Float) × (merge_densities P M T p h m0 m1 m2 m3 ≡ DensityMerge.Kept chi))
+  pub reject_densities_iff_kept : (accept_densities P M T p h m0 m1 m2 m3 ≡ none) ↔ ((chi : Float) × (merge_densities P M T p h m0 m1 m2 m3 ≡ Merge.Kept chi))
   unfolding accept_densities
-  reject_densities_iff_kept = kept_densities_iff (merge_densities P M T p h m0 m1 m2 m3)
+  reject_densities_iff_kept = kept_iff (merge_densities P M T p h m0 m1 m2 m3)
 
   pub accept_densities-is : accept_densities P M T p h m0 m1 m2 m3 ≡ cond (leb M p && (not (is_protected 29 P p h) && lt (chi_of_densities p m0 m1 m2 m3) T)) (some (sum_of m0 m1 m2 m3 ⊘ 4·0)) none
-  unfolding accept_densities merge_densities_with merge_densities_by_chi merged_density
+  unfolding accept_densities merge_densities_with merge_densities_by_chi merged
   accept_densities-is = go (leb M p) (is_protected 29 P p h) (lt (chi_of_densities p m0 m1 m2 m3) T)
     where
       chi : Float
@@ -127,7 +115,7 @@ module _ (P : List ℕ) (M : ℕ) (T : Float) (p h : ℕ) (m0 m1 m2 m3 : Float) 
       mean = sum_of m0 m1 m2 m3 ⊘ 4·0
 
       go : (deep listed below : Bool)
-          → merged_density (cond listed (DensityMerge.Kept chi) (cond (deep && below) (DensityMerge.Merged mean) (DensityMerge.Kept chi))) ≡ cond (deep && (not listed && below)) (some mean) none
+          → merged (cond listed (Merge.Kept chi) (cond (deep && below) (Merge.Merged mean) (Merge.Kept chi))) ≡ cond (deep && (not listed && below)) (some mean) none
       go true true below = refl
       go true false true = refl
       go true false false = refl

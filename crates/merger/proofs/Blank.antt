@@ -10,8 +10,8 @@ use Rattle.zuniq.proofs.Basics.{and_is_true, is_false, le_or_lt}
 use Rattle.protection.specs.Protected.{is_protected}
 use Rattle.protection.proofs.Listed.{nothing_protected}
 use Rattle.merger.specs.Floats.{0·0}
-use Rattle.merger.specs.Merge.{chi_of_counts, merge_by_chi, blank, merge_counts, merged_count, accept_counts, accept_by_chi}
-use Rattle.merger.specs.declared.CountMerge.{CountMerge}
+use Rattle.merger.specs.Merge.{chi_of_counts, merge_by_chi, blank, merge_counts, merged, accept_counts, accept_by_chi}
+use Rattle.merger.specs.declared.Merge.{Merge}
 use Rattle.merger.proofs.Counts.{chi_of_zero}
 
 -- ---- blank is a sum of 0
@@ -46,29 +46,29 @@ pub chi_of_blank : chi_of_counts 0 0 0 0 ≡ 0·0
 chi_of_blank = unfold lib.Ieee.of_int in chi_of_zero 0 0 0 0 (omega arith) (inr refl)
 
 -- The former merger merged four counts of 0 where T is above 0.
-former_blank : (M : ℕ) (T : Float) (p h : ℕ) → M ≤ p → lt 0·0 T ≡ true → merge_by_chi M T p h 0 0 0 0 ≡ CountMerge.Merged 0
+former_blank : (M : ℕ) (T : Float) (p h : ℕ) → M ≤ p → lt 0·0 T ≡ true → merge_by_chi M T p h 0 0 0 0 ≡ Merge.Merged 0
 unfolding merge_by_chi
 former_blank M T p h l t = rw (chi_of_blank, le-leb M p l, t)
 
 module _ (K : ℕ) (P : List ℕ) (M : ℕ) (T : Float) (p h : ℕ) where
   -- ---- four counts of 0
   -- Below M they are kept, with chi 0,
-  pub blank_kept_below_M : p < M → merge_counts K P M T p h 0 0 0 0 ≡ CountMerge.Kept 0·0
+  pub blank_kept_below_M : p < M → merge_counts K P M T p h 0 0 0 0 ≡ Merge.Kept 0·0
   unfolding merge_counts merge_by_chi
   blank_kept_below_M l = rw (lt-leb M p l, chi_of_blank) (go (is_protected K P p h))
     where
-      go : (b : Bool) → cond b (CountMerge.Kept 0·0) (CountMerge.Kept 0·0) ≡ CountMerge.Kept 0·0
+      go : (b : Bool) → cond {A = Merge ℕ} b (Merge.Kept 0·0) (Merge.Kept 0·0) ≡ Merge.Kept 0·0
       go true = refl
       go false = refl
 
   -- and so they are under a protected parent of any depth: "protection now comes first".
-  pub protected_blank_kept : is_protected K P p h ≡ true → merge_counts K P M T p h 0 0 0 0 ≡ CountMerge.Kept 0·0
+  pub protected_blank_kept : is_protected K P p h ≡ true → merge_counts K P M T p h 0 0 0 0 ≡ Merge.Kept 0·0
   unfolding merge_counts
   protected_blank_kept e = rw (e, chi_of_blank)
 
   module _ (free : is_protected K P p h ≡ false) where
     -- "Four siblings of count 0 now merge at any T, where the parent depth is at least M."
-    pub blank_merges : M ≤ p → merge_counts K P M T p h 0 0 0 0 ≡ CountMerge.Merged 0
+    pub blank_merges : M ≤ p → merge_counts K P M T p h 0 0 0 0 ≡ Merge.Merged 0
     unfolding merge_counts
     blank_merges l = rw (free, le-leb M p l)
 
@@ -97,4 +97,4 @@ module _ (K : ℕ) (P : List ℕ) (M : ℕ) (T : Float) (p h : ℕ) where
 pub accepts_as_before : (K M : ℕ) (T : Float) → lt 0·0 T ≡ true → accept_counts K [] M T ≡ accept_by_chi M T
 unfolding accept_counts accept_by_chi
 accepts_as_before K M T t =
-    fun_ext (λ p. fun_ext (λ h. fun_ext (λ n0. fun_ext (λ n1. fun_ext (λ n2. fun_ext (λ n3. ap merged_count (as_before_above_0 K [] M T p h (nothing_protected K p h) n0 n1 n2 n3 t)))))))
+    fun_ext (λ p. fun_ext (λ h. fun_ext (λ n0. fun_ext (λ n1. fun_ext (λ n2. fun_ext (λ n3. ap merged (as_before_above_0 K [] M T p h (nothing_protected K p h) n0 n1 n2 n3 t)))))))

@@ -5,13 +5,13 @@
 use Rattle.std.proofs.Common.{◌≡◌, ℕ, ◌+◌, ◌*◌, ◌^◌, ◌<◌, ◌≤◌, Bool, true, false, cond, ◌&&◌, T, ltb, leb, List, refl, subst, mul_assoc, mul_comm, mul-pos, mul_left_comm, arith, ltb-false}
 use mathlib.Core.Option.{Option, none, some, some-injective, none-ne-some}
 use lib.Ieee.{Float}
-use Rattle.refusal.specs.Checks.{or_else, refused_if}
+use Rattle.refusal.specs.Checks.{or_else, refused_if, ok_unless}
 use Rattle.refusal.specs.declared.Refusal.{Refusal}
 use Rattle.refusal.proofs.Checks.{or_else_none, refused_if-none}
 use Rattle.protection.specs.Protected.{is_protected}
 use Rattle.merger.specs.Floats.{◌⊗◌, ◌⊘◌, float, 1·0, 4·0}
-use Rattle.merger.specs.Merge.{merges, sum_of, w_of, chi_of_counts, blank, merge_by_chi, merge_counts, quad_refusal, count_merger_or, count_merger}
-use Rattle.merger.specs.declared.CountMerge.{CountMerge}
+use Rattle.merger.specs.Merge.{merges, sum_of, w_of, chi_of_counts, blank, merge_by_chi, merge_counts, quad_refusal, count_merger}
+use Rattle.merger.specs.declared.Merge.{Merge}
 use Rattle.merger.specs.ChiError.{product_of, triples_of, chi_within, SomeZero, chi_exact, kept_chi, answered_chi}
 use Rattle.merger.proofs.Counts.{float_value, sum_exact, chi_of_zero}
 use Rattle.merger.proofs.Exact.{value_exact}
@@ -63,14 +63,14 @@ kept_chi_lem K P M T p h n0 n1 n2 n3 chi = go (is_protected K P p h) (leb M p &&
     x = chi_of_counts n0 n1 n2 n3
 
     go : (listed empty merged : Bool)
-        → kept_chi (cond listed (CountMerge.Kept x) (cond empty (CountMerge.Merged 0) (cond merged (CountMerge.Merged (n0 + n1 + n2 + n3)) (CountMerge.Kept x)))) ≡ some chi → x ≡ chi
+        → kept_chi (cond listed (Merge.Kept x) (cond empty (Merge.Merged 0) (cond merged (Merge.Merged (n0 + n1 + n2 + n3)) (Merge.Kept x)))) ≡ some chi → x ≡ chi
     go true empty merged e = some-injective x chi e
     go false true merged e = absurd (none-ne-some chi e)
     go false false true e = absurd (none-ne-some chi e)
     go false false false e = some-injective x chi e
 
 -- Where a chi is answered nothing was refused.
-not_refused : (o : Option Refusal) (m : CountMerge) (chi : Float) → answered_chi (count_merger_or o m) ≡ some chi → (o ≡ none) × (kept_chi m ≡ some chi)
+not_refused : (o : Option Refusal) (m : Merge ℕ) (chi : Float) → answered_chi (ok_unless o m) ≡ some chi → (o ≡ none) × (kept_chi m ≡ some chi)
 unfolding answered_chi
 not_refused (some r) m chi e = absurd (none-ne-some chi e)
 not_refused none m chi e = (refl, e)

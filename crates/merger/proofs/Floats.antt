@@ -1,24 +1,15 @@
 -- Facts on f64s, at every float: the comparisons that the code makes, and which results are no NaN and which sign they
 -- have. Assumes nothing.
-use Rattle.std.proofs.Common.{◌≡◌, ℕ, zero, suc, ◌+◌, ◌-◌, ◌*◌, ◌^◌, ◌<◌, Bool, true, false, cond, not, ◌&&◌, ◌||◌, T, eqb, ltb, ◌⊎◌, ℤ, pos, sym, refl, subst, inl, inr, true≢false, suc-le-suc, zero-le, add-zero, zero-lt-suc, mul-zero, zero-mul, mul-one, arith, le-ltb, lt-ltb, eq-eqb}
+use Rattle.std.proofs.Common.{◌≡◌, ℕ, zero, suc, ◌+◌, ◌-◌, ◌*◌, ◌^◌, ◌<◌, Bool, true, false, cond, not, ◌&&◌, ◌||◌, T, eqb, ltb, ◌⊎◌, ℤ, pos, sym, refl, subst, inl, inr, true≢false, suc-le-suc, zero-le, add-zero, zero-lt-suc, mul-zero, zero-mul, mul-one, arith, le-ltb, lt-ltb}
 use mathlib.Core.Bool.{beq}
 use lib.Dec.{eqb-zero-suc}
 use lib.Ieee as Ieee
 use lib.Ieee.{Float, nan, inf, fin, Format, binary64, prec, emax, low, up, down, odd, units, round, sum, is_nan}
 use lib.Ieee.Fits.{round_is, down_pos}
 use lib.Ieee.Scale.{round_same, finite}
-use Rattle.merger.specs.Floats.{◌⊕◌, ◌⊖◌, ◌⊗◌, ◌⊘◌, 0·0, invalid_density}
+use Rattle.merger.specs.Floats.{◌⊕◌, ◌⊖◌, ◌⊗◌, ◌⊘◌, 0·0, 1·0, 4·0, invalid_density}
 
 -- ---- comparisons
--- A float differs from itself exactly if it is a NaN.
-pub ne_self : (x : Float) → Ieee.ne x x ≡ is_nan x
-unfolding Ieee.ne is_nan
-ne_self nan = refl
-ne_self (inf true) = refl
-ne_self (inf false) = refl
-ne_self (fin true m e) = rw (eq-eqb (m * up e * down e) (m * up e * down e) refl)
-ne_self (fin false m e) = rw (eq-eqb (m * up e * down e) (m * up e * down e) refl)
-
 -- No float is below itself.
 pub lt_self : (x : Float) → Ieee.lt x x ≡ false
 unfolding Ieee.lt
@@ -27,6 +18,21 @@ lt_self (inf true) = refl
 lt_self (inf false) = refl
 lt_self (fin true m e) = le-ltb (m * up e * down e) (m * up e * down e) (omega arith)
 lt_self (fin false m e) = le-ltb (m * up e * down e) (m * up e * down e) (omega arith)
+
+-- ---- the literals of the code
+pub zero_is : Ieee.of_bits binary64 0 ≡ 0·0
+unfolding Ieee.of_bits
+zero_is = refl
+
+pub one_is : Ieee.of_bits binary64 0x3FF0_0000_0000_0000 ≡ 1·0
+unfolding Ieee.of_bits
+one_is = refl
+
+pub four_is : Ieee.of_bits binary64 0x4010_0000_0000_0000 ≡ 4·0
+unfolding Ieee.of_bits
+four_is = refl
+
+pub ruleset literals = (zero_is, one_is, four_is)
 
 -- ---- zeros
 -- Zero is rounded to a zero.
@@ -57,6 +63,8 @@ invalid_density-is (inf true) = refl
 invalid_density-is (inf false) = refl
 invalid_density-is (fin true m e) = rw (times_zero true m e) (simp zero-mul (minus_at_least_0 (m * up e * 1)))
 invalid_density-is (fin false m e) = rw (times_zero false m e) (simp zero-mul (plus_at_least_0 (m * up e * 1)))
+
+pub ruleset density_tests = (invalid_density-is, zero_is)
 
 -- ---- signs
 -- x is no NaN and has the sign s

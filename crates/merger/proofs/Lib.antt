@@ -10,6 +10,5 @@ pub mod Excess
 pub mod Means
 pub mod Parts
 pub mod Protected
-pub mod Quads
 pub mod Rounding
 pub mod Values

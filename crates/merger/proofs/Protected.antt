@@ -9,20 +9,19 @@ use Rattle.protection.specs.Protected.{is_protected}
 use Rattle.protection.proofs.Listed.{nothing_protected}
 use Rattle.merger.specs.Floats.{◌⊘◌, 4·0}
 use Rattle.merger.specs.Merge.{merges, sum_of, chi_of_counts, merge_by_chi, blank, merge_counts, accept_counts, chi_of_densities_with, merge_densities_by_chi, merge_densities_with, accept_densities}
-use Rattle.merger.specs.declared.CountMerge.{CountMerge}
-use Rattle.merger.specs.declared.DensityMerge.{DensityMerge}
+use Rattle.merger.specs.declared.Merge.{Merge}
 use Rattle.merger.proofs.Blank.{sum_of_blank}
 use Rattle.merger.proofs.Accept.{accept_counts-is, accept_densities-is}
 
 -- ---- counts
 module _ (K : ℕ) (P : List ℕ) (M : ℕ) (T : Float) (p h n0 n1 n2 n3 : ℕ) where
   -- Under a protected parent counts are kept, and carry their chi.
-  pub protected_counts_kept : is_protected K P p h ≡ true → merge_counts K P M T p h n0 n1 n2 n3 ≡ CountMerge.Kept (chi_of_counts n0 n1 n2 n3)
+  pub protected_counts_kept : is_protected K P p h ≡ true → merge_counts K P M T p h n0 n1 n2 n3 ≡ Merge.Kept (chi_of_counts n0 n1 n2 n3)
   unfolding merge_counts
   protected_counts_kept e = rw e
 
   -- Under any other they are merged, to their sum, where chi does it or they are blank sky from M on,
-  pub counts_merged : is_protected K P p h ≡ false → (merges M T p (chi_of_counts n0 n1 n2 n3) || (leb M p && blank n0 n1 n2 n3)) ≡ true → merge_counts K P M T p h n0 n1 n2 n3 ≡ CountMerge.Merged (n0 + n1 + n2 + n3)
+  pub counts_merged : is_protected K P p h ≡ false → (merges M T p (chi_of_counts n0 n1 n2 n3) || (leb M p && blank n0 n1 n2 n3)) ≡ true → merge_counts K P M T p h n0 n1 n2 n3 ≡ Merge.Merged (n0 + n1 + n2 + n3)
   unfolding merge_counts merge_by_chi
   counts_merged free t =
       rw free
@@ -34,13 +33,13 @@ module _ (K : ℕ) (P : List ℕ) (M : ℕ) (T : Float) (p h n0 n1 n2 n3 : ℕ) 
       sum : ℕ
       sum = n0 + n1 + n2 + n3
 
-      go : (below empty : Bool) → (empty ≡ true → sum ≡ 0) → (below || empty) ≡ true → cond empty (CountMerge.Merged 0) (cond below (CountMerge.Merged sum) (CountMerge.Kept chi)) ≡ CountMerge.Merged sum
-      go below true z t = ap (λ (n : ℕ). CountMerge.Merged n) (sym (z refl))
+      go : (below empty : Bool) → (empty ≡ true → sum ≡ 0) → (below || empty) ≡ true → cond empty (Merge.Merged 0) (cond below (Merge.Merged sum) (Merge.Kept chi)) ≡ Merge.Merged sum
+      go below true z t = ap (λ (n : ℕ). Merge.Merged n) (sym (z refl))
       go true false z t = refl
       go false false z t = absurd (false≢true t)
 
   -- and kept elsewhere, listed or not.
-  pub counts_kept : (merges M T p (chi_of_counts n0 n1 n2 n3) || (leb M p && blank n0 n1 n2 n3)) ≡ false → merge_counts K P M T p h n0 n1 n2 n3 ≡ CountMerge.Kept (chi_of_counts n0 n1 n2 n3)
+  pub counts_kept : (merges M T p (chi_of_counts n0 n1 n2 n3) || (leb M p && blank n0 n1 n2 n3)) ≡ false → merge_counts K P M T p h n0 n1 n2 n3 ≡ Merge.Kept (chi_of_counts n0 n1 n2 n3)
   unfolding merge_counts merge_by_chi
   counts_kept e = go (is_protected K P p h) (merges M T p (chi_of_counts n0 n1 n2 n3)) (leb M p && blank n0 n1 n2 n3) e
     where
@@ -48,7 +47,7 @@ module _ (K : ℕ) (P : List ℕ) (M : ℕ) (T : Float) (p h n0 n1 n2 n3 : ℕ) 
       chi = chi_of_counts n0 n1 n2 n3
 
       go : (listed below empty : Bool) → (below || empty) ≡ false
-          → cond listed (CountMerge.Kept chi) (cond empty (CountMerge.Merged 0) (cond below (CountMerge.Merged (n0 + n1 + n2 + n3)) (CountMerge.Kept chi))) ≡ CountMerge.Kept chi
+          → cond listed (Merge.Kept chi) (cond empty (Merge.Merged 0) (cond below (Merge.Merged (n0 + n1 + n2 + n3)) (Merge.Kept chi))) ≡ Merge.Kept chi
       go true below empty e = refl
       go false false false e = refl
       go false false true e = absurd (false≢true (sym e))
@@ -65,20 +64,20 @@ module _ (K : ℕ) (P : List ℕ) (M : ℕ) (T : Float) (p h n0 n1 n2 n3 : ℕ) 
 
 -- ---- densities
 module _ (P : List ℕ) (M : ℕ) (T : Float) (p h : ℕ) (m0 m1 m2 m3 : Float) where
-  pub protected_densities_kept : (c : Float) → is_protected 29 P p h ≡ true → merge_densities_with c P M T p h m0 m1 m2 m3 ≡ DensityMerge.Kept (chi_of_densities_with c m0 m1 m2 m3)
+  pub protected_densities_kept : (c : Float) → is_protected 29 P p h ≡ true → merge_densities_with c P M T p h m0 m1 m2 m3 ≡ Merge.Kept (chi_of_densities_with c m0 m1 m2 m3)
   unfolding merge_densities_with
   protected_densities_kept c e = rw e
 
   -- Densities are merged where chi does it and the parent is not protected, and kept elsewhere.
-  pub densities_merged : (c : Float) → is_protected 29 P p h ≡ false → merges M T p (chi_of_densities_with c m0 m1 m2 m3) ≡ true → merge_densities_with c P M T p h m0 m1 m2 m3 ≡ DensityMerge.Merged (sum_of m0 m1 m2 m3 ⊘ 4·0)
+  pub densities_merged : (c : Float) → is_protected 29 P p h ≡ false → merges M T p (chi_of_densities_with c m0 m1 m2 m3) ≡ true → merge_densities_with c P M T p h m0 m1 m2 m3 ≡ Merge.Merged (sum_of m0 m1 m2 m3 ⊘ 4·0)
   unfolding merge_densities_with merge_densities_by_chi
   densities_merged c free e = rw (free, e)
 
-  pub densities_kept : (c : Float) → merges M T p (chi_of_densities_with c m0 m1 m2 m3) ≡ false → merge_densities_with c P M T p h m0 m1 m2 m3 ≡ DensityMerge.Kept (chi_of_densities_with c m0 m1 m2 m3)
+  pub densities_kept : (c : Float) → merges M T p (chi_of_densities_with c m0 m1 m2 m3) ≡ false → merge_densities_with c P M T p h m0 m1 m2 m3 ≡ Merge.Kept (chi_of_densities_with c m0 m1 m2 m3)
   unfolding merge_densities_with merge_densities_by_chi
   densities_kept c e = rw e (go (is_protected 29 P p h))
     where
-      go : (t : Bool) → cond t (DensityMerge.Kept (chi_of_densities_with c m0 m1 m2 m3)) (DensityMerge.Kept (chi_of_densities_with c m0 m1 m2 m3)) ≡ DensityMerge.Kept (chi_of_densities_with c m0 m1 m2 m3)
+      go : (t : Bool) → cond {A = Merge Float} t (Merge.Kept (chi_of_densities_with c m0 m1 m2 m3)) (Merge.Kept (chi_of_densities_with c m0 m1 m2 m3)) ≡ Merge.Kept (chi_of_densities_with c m0 m1 m2 m3)
       go true = refl
       go false = refl
 

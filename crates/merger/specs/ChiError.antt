@@ -1,11 +1,11 @@
 -- Note 9 of 02: how near the chi-square of four counts is. "Statisticians quote our chi and need its error." The number that chi rounds is
 -- S − 16 × P / E, of which `is_within` says, without a division, how far a given f64 is from it.
-use Rattle.std.specs.Prelude.{◌≡◌, ℕ, ◌+◌, ◌*◌, ◌^◌, Bool, true, false, ◌⊎◌, ℤ, pos, ◌-ℤ◌, ◌*ℤ◌, neg_ℤ, ◌==◌, nat_le, unsigned_abs, Float}
+use Rattle.std.specs.Prelude.{◌≡◌, ℕ, ◌+◌, ◌*◌, ◌^◌, Bool, true, false, ◌⊎◌, ℤ, pos, Result, Ok, Err, ◌-ℤ◌, ◌*ℤ◌, neg_ℤ, ◌==◌, nat_le, unsigned_abs, Float}
 use Rattle.std.proofs.Math.Option.{Option, none, some}
 use Rattle.std.specs.Float.{nan, inf, fin}
 use Rattle.std.specs.Float.Ieee.{up, down}
-use Rattle.merger.specs.declared.CountMerge.{CountMerge}
-use Rattle.merger.specs.declared.CountMerger.{CountMerger}
+use Rattle.refusal.specs.declared.Refusal.{Refusal}
+use Rattle.merger.specs.declared.Merge.{Merge}
 
 -- ---- "the exact number that the f64 stands for"
 -- a whole number over a power of two
@@ -59,11 +59,11 @@ unfoldable pub chi_exact : (chi : Float) (n0 n1 n2 n3 : ℕ) → Bool
 chi_exact chi n0 n1 n2 n3 = is_exactly (n0 + n1 + n2 + n3) (exact_value chi)
 
 -- ---- the chi that a statistician is handed: what the count merger answers where the four are kept
-unfoldable pub kept_chi : CountMerge → Option Float
-kept_chi (CountMerge.Merged n) = none
-kept_chi (CountMerge.Kept chi) = some chi
+unfoldable pub kept_chi : {V : Type 0} → Merge V → Option Float
+kept_chi (Merge.Merged v) = none
+kept_chi (Merge.Kept chi) = some chi
 
-unfoldable pub answered_chi : CountMerger → Option Float
+unfoldable pub answered_chi : {V : Type 0} → Result (Merge V) Refusal → Option Float
 unfolding kept_chi
-answered_chi (CountMerger.Answer m) = kept_chi m
-answered_chi (CountMerger.Refused r) = none
+answered_chi (Ok m) = kept_chi m
+answered_chi (Err r) = none

@@ -1,19 +1,19 @@
 // The density merger.
-ghost use Rattle.std.specs.Prelude.{◌≡◌, ◌<◌, ◌≤◌};
+ghost use Rattle.std.specs.Prelude.{◌≡◌, ◌+◌, ◌<◌, ◌≤◌, refl};
 ghost use Rattle.zuniq.specs.Cells.{n_hash};
-ghost use Rattle.protection.specs.Protected.{RisingList};
 ghost use Rattle.merger.specs.Floats.{◌⊘◌, float, π, max, invalid_density};
-ghost use Rattle.merger.specs.Merge.{chi_of_densities_with, merge_densities_with, merge_densities, first_invalid, density_merger};
+ghost use Rattle.merger.specs.Merge.{merged, unit_density, chi_of_densities_with, merge_densities_with, merge_densities, accept_densities, first_invalid, density_merger};
 
-use super::{DensityMerge, DensityMerger, check_quad, merges, sum_of};
-use protection::is_protected;
-use refusal::{Check, Refusal};
+use super::{Merge, Merger, check_quad, merges, sum_of};
+use protection::Protected;
+use refusal::Refusal;
 use zuniq::n_hash_unchecked;
 
 // The f64 with bits 400921FB54442D18.
 const PI: f64 = 3.141592653589793;
 
-// The source's `new_chi2_density_merger`, called on a parent and its four densities.
+// The source's `new_chi2_density_merger`, called on a parent and its four densities, as C hands them.
+#[tactic(auto, unfolding(crate::specs::Merge::density_merger))]
 pub fn chi2_density_merger(
     parent_depth: u8,
     parent_hash: u64,
@@ -24,112 +24,140 @@ pub fn chi2_density_merger(
     m1: f64,
     m2: f64,
     m3: f64,
-) -> DensityMerger
+) -> Result<Merge<f64>, Refusal>
     ensures { result ≡ density_merger protected.now depth_threshold chi2_threshold parent_depth parent_hash m0 m1 m2 m3 }
 {
-    if let Check::Refused(refusal) = check_quad(
+    let protected = check_quad(
         parent_depth,
         parent_hash,
         depth_threshold,
         chi2_threshold,
         protected,
-    ) {
-        return DensityMerger::Refused(refusal);
+    )?;
+    if let Some(child) = first_invalid(m0, m1, m2, m3) {
+        return Err(Refusal::InvalidDensity(child));
     }
-    let child = first_invalid(m0, m1, m2, m3);
-    if child < 4 {
-        return DensityMerger::Refused(Refusal::InvalidDensity(child));
-    }
-    DensityMerger::Answer(merge_densities(
-        parent_depth,
-        parent_hash,
-        depth_threshold,
-        chi2_threshold,
-        protected,
-        m0,
-        m1,
-        m2,
-        m3,
-    ))
+    let merger = DensityMerger::new(parent_depth, depth_threshold, chi2_threshold, protected);
+    Ok(merger.merge(parent_depth, parent_hash, m0, m1, m2, m3))
 }
 
-// The first of four densities that is invalid, 4 if none is.
-fn first_invalid(m0: f64, m1: f64, m2: f64, m3: f64) -> usize
+// The first of four densities that is invalid.
+fn first_invalid(m0: f64, m1: f64, m2: f64, m3: f64) -> Option<usize>
     ensures { result ≡ first_invalid m0 m1 m2 m3 }
 {
-    if invalid_density(m0) {
-        return 0;
-    }
-    if invalid_density(m1) {
-        return 1;
-    }
-    if invalid_density(m2) {
-        return 2;
-    }
-    if invalid_density(m3) {
-        return 3;
-    }
-    4
+    [m0, m1, m2, m3].iter().position(|m| invalid_density(*m))
 }
 
-// The density merger for any four f64s.
-fn merge_densities(
-    parent_depth: u8,
-    parent_hash: u64,
-    depth_threshold: u8,
-    chi2_threshold: f64,
-    protected: &[u64],
-    m0: f64,
-    m1: f64,
-    m2: f64,
-    m3: f64,
-) -> DensityMerge
-    requires { (parent_depth ≤ 29) × (parent_hash < n_hash parent_depth) × RisingList protected.now }
-    ensures { result ≡ merge_densities protected.now depth_threshold chi2_threshold parent_depth parent_hash m0 m1 m2 m3 }
-{
-    merge_densities_with(
-        unit_density(n_hash_unchecked(parent_depth)),
-        parent_depth,
-        parent_hash,
-        depth_threshold,
-        chi2_threshold,
-        protected,
-        m0,
-        m1,
-        m2,
-        m3,
-    )
+// The density merger. It keeps c of one parent depth, that of the cells of a batch: c takes a division.
+#[derive(Drop)]
+pub struct DensityMerger<'a> {
+    pub depth_threshold: u8,
+    pub chi2_threshold: f64,
+    pub protected: Protected<'a, u64>,
+    pub parent_depth: u8,
+    pub unit: f64,
+    pub ghost unit_is: { unit ≡ unit_density parent_depth },
 }
 
-// The same with c, for callers that merge many quads of one depth: it takes a division. The list is
-// searched only for what the chi-square would merge.
-pub fn merge_densities_with(
-    c: f64,
-    parent_depth: u8,
-    parent_hash: u64,
-    depth_threshold: u8,
-    chi2_threshold: f64,
-    protected: &[u64],
-    m0: f64,
-    m1: f64,
-    m2: f64,
-    m3: f64,
-) -> DensityMerge
-    requires { (parent_depth ≤ 29) × (parent_hash < n_hash parent_depth) × RisingList protected.now }
-    ensures { result ≡ merge_densities_with c protected.now depth_threshold chi2_threshold parent_depth parent_hash m0 m1 m2 m3 }
-{
-    let chi2 = chi2_of_densities(c, m0, m1, m2, m3);
-    if merges(parent_depth, depth_threshold, chi2_threshold, chi2) {
-        if !is_protected(protected, parent_depth, parent_hash) {
-            return DensityMerge::Merged(sum_of(m0, m1, m2, m3) / 4.0);
+impl<'a> DensityMerger<'a> {
+    // A merger that keeps c of this parent depth.
+    #[tactic(auto, unfolding(crate::specs::Merge::unit_density))]
+    pub fn new(
+        parent_depth: u8,
+        depth_threshold: u8,
+        chi2_threshold: f64,
+        protected: Protected<'a, u64>,
+    ) -> DensityMerger<'a>
+        requires { parent_depth ≤ 29 }
+        ensures { (result.depth_threshold ≡ depth_threshold) × (result.chi2_threshold ≡ chi2_threshold) × (result.protected.zuniqs.now ≡ protected.entry.zuniqs.now) × (result.parent_depth ≡ parent_depth) }
+    {
+        DensityMerger {
+            depth_threshold,
+            chi2_threshold,
+            protected,
+            parent_depth,
+            unit: unit_density(n_hash_unchecked(parent_depth)),
         }
     }
-    DensityMerge::Kept(chi2)
+
+    // The merger with a given c, for any four f64s. The list is searched only for what the chi-square
+    // would merge. Adding is a sixth faster where this is no call.
+    #[tactic(auto, using(crate::proofs::Floats::literals), unfolding(crate::specs::Merge::merge_densities_with, crate::specs::Merge::merge_densities_by_chi))]
+    #[inline]
+    pub fn merge_with(
+        &self,
+        c: f64,
+        parent_depth: u8,
+        parent_hash: u64,
+        m0: f64,
+        m1: f64,
+        m2: f64,
+        m3: f64,
+    ) -> Merge<f64>
+        requires { (parent_depth ≤ 29) × (parent_hash < n_hash parent_depth) }
+        ensures { result ≡ merge_densities_with c self.now.protected.zuniqs.now self.now.depth_threshold self.now.chi2_threshold parent_depth parent_hash m0 m1 m2 m3 }
+    {
+        let chi2 = chi2_of_densities(c, m0, m1, m2, m3);
+        if merges(
+            parent_depth,
+            self.depth_threshold,
+            self.chi2_threshold,
+            chi2,
+        ) && !self.protected.contains(parent_depth, parent_hash)
+        {
+            return Merge::Merged(sum_of(m0, m1, m2, m3) / 4.0);
+        }
+        Merge::Kept(chi2)
+    }
+
+    // c at a parent depth.
+    #[tactic(auto, unfolding(crate::specs::Merge::unit_density))]
+    fn unit_at(&self, parent_depth: u8) -> f64
+        requires { parent_depth ≤ 29 }
+        ensures { result ≡ unit_density parent_depth }
+    {
+        if parent_depth == self.parent_depth {
+            return self.unit;
+        }
+        unit_density(n_hash_unchecked(parent_depth))
+    }
+}
+
+impl<'a> Merger for DensityMerger<'a> {
+    type Zuniq = u64;
+
+    type Value = f64;
+
+    ghost accept = { λ m p h m0 m1 m2 m3. accept_densities m.protected.zuniqs.now m.depth_threshold m.chi2_threshold p h m0 m1 m2 m3 };
+
+    ghost weight = { λ m. 0 };
+
+    #[tactic(auto, unfolding(crate::specs::Merge::accept_densities))]
+    #[inline]
+    fn merge(
+        &self,
+        parent_depth: u8,
+        parent_hash: u64,
+        m0: f64,
+        m1: f64,
+        m2: f64,
+        m3: f64,
+    ) -> Merge<f64>
+        requires cell { (parent_depth ≤ 29) × (parent_hash < n_hash parent_depth) }
+        ensures accepts { merged result ≡ accept_densities self.now.protected.zuniqs.now self.now.depth_threshold self.now.chi2_threshold parent_depth parent_hash m0 m1 m2 m3 }
+        ensures answer { result ≡ merge_densities self.now.protected.zuniqs.now self.now.depth_threshold self.now.chi2_threshold parent_depth parent_hash m0 m1 m2 m3 }
+    {
+        let c = self.unit_at(parent_depth);
+        self.merge_with(c, parent_depth, parent_hash, m0, m1, m2, m3)
+    }
+
+    ghost keeps_weight = { λ m p h m0 m1 m2 m3 x e. refl };
 }
 
 // The chi-square of four densities, as that of four counts. A child has the surface 1 / c, so a
 // density m_i has the variance m_i * c, here that of one source where m_i is less, and
 //     chi2 = ((sum of m_i) - 4 * (4 / w)) / c, w being the sum of the 1 / max(m_i, c).
+#[tactic(auto, using(crate::proofs::Floats::literals), unfolding(crate::specs::Merge::chi_of_densities_with))]
 fn chi2_of_densities(c: f64, m0: f64, m1: f64, m2: f64, m3: f64) -> f64
     ensures { result ≡ chi_of_densities_with c m0 m1 m2 m3 }
 {
@@ -159,6 +187,7 @@ fn max(m: f64, c: f64) -> f64
 
 // NaN, infinite or below 0. A NaN is not at least 0, and times 0 only what is finite is 0. Of a
 // comparison with infinity the compiler would make tests of the bits, which take longer.
+#[tactic(auto, using(crate::proofs::Floats::density_tests))]
 pub fn invalid_density(x: f64) -> bool
     ensures { result ≡ invalid_density x }
 {

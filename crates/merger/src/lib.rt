@@ -10,87 +10,91 @@
 // `chi2_count_merger` and `chi2_density_merger` refuse, in this order: a parent depth over 28 (number
 // 1), M over 29 (2), T a NaN (3), a list of protected parents that is no rising one of zuniqs (15, place:
 // the index), a parent hash that its depth does not have (7), a density that is NaN, infinite or below 0
-// (9, place: the child; -0 is accepted), counts whose sum exceeds a u32 (10). `merge_counts`,
-// `merge_narrow_counts` and `merge_densities_with` refuse nothing: they are for callers that have checked
-// their input.
+// (9, place: the child; -0 is accepted), counts whose sum exceeds a u32 (10). `CountMerger` and
+// `DensityMerger` refuse nothing: they are for callers that have checked their input.
 #![tactic(auto)]
 
-ghost use Rattle.std.specs.Prelude.{◌≡◌, is_nan};
-ghost use Rattle.refusal.specs.Checks.{check_of};
-ghost use Rattle.merger.specs.Merge.{merges, sum_of, quad_refusal};
+ghost use Rattle.std.specs.Prelude.{◌≡◌, ◌+◌, ◌<◌, ◌≤◌, ℕ, MatchResult, OnOk};
+ghost use Rattle.std.proofs.Math.Option.{Option, none, some};
+ghost use Rattle.zuniq.specs.Cells.{n_hash};
+ghost use Rattle.merger.specs.Merge.{merges, sum_of, quad_refusal, merged};
 
-use protection::check_protected;
-use refusal::{Check, Refusal};
-use zuniq::{Zuniq64, n_hash_unchecked};
+use protection::Protected;
+use refusal::Refusal;
+use zuniq::{ZUniqHashT, n_hash_unchecked};
 
 mod count_merger;
 mod density_merger;
-mod narrow_count_merger;
 
-pub use count_merger::{chi2_count_merger, merge_counts};
-pub use density_merger::{
-    chi2_density_merger, invalid_density, merge_densities_with, unit_density,
-};
-pub use narrow_count_merger::merge_narrow_counts;
+pub use count_merger::{CountMerger, chi2_count_merger};
+pub use density_merger::{DensityMerger, chi2_density_merger, invalid_density, unit_density};
 
-// What becomes of four counts: their parent's count, or that they are kept, with their chi-square.
+// What becomes of four siblings: their parent's value, or that they are kept, with their chi-square. An
+// enum of our own and no Result: the scope names it.
 #[derive(Clone, Copy)]
-pub enum CountMerge {
-    Merged(u32),
+pub enum Merge<V> {
+    Merged(V),
     Kept(f64),
 }
 
-// What becomes of four densities: their parent's density, or that they are kept, with their
-// chi-square.
-#[derive(Clone, Copy)]
-pub enum DensityMerge {
-    Merged(f64),
-    Kept(f64),
-}
+// A merger of four siblings, with its settings: M, T and the protected parents.
+pub trait Merger {
+    // The zuniqs among which it merges, and the values beside them.
+    type Zuniq: ZUniqHashT;
 
-// What the count merger answers.
-#[derive(Clone, Copy)]
-pub enum CountMerger {
-    Answer(CountMerge),
-    Refused(Refusal),
-}
+    type Value: Copy;
+    // The parent's value, by the parent's depth and hash and the four values, where it accepts them.
+    ghost accept: { Self → ℕ → ℕ → Self.Value → Self.Value → Self.Value → Self.Value → Option Self.Value };
+    // What a value adds to a total that has to fit a u32: a count itself, a density nothing.
+    ghost weight: { Self.Value → ℕ };
 
-// What the density merger answers.
-#[derive(Clone, Copy)]
-pub enum DensityMerger {
-    Answer(DensityMerge),
-    Refused(Refusal),
+    // The merger, called on a parent and its four values, one by one as C hands them. It refuses nothing.
+    fn merge(
+        &self,
+        parent_depth: u8,
+        parent_hash: u64,
+        v0: Self::Value,
+        v1: Self::Value,
+        v2: Self::Value,
+        v3: Self::Value,
+    ) -> Merge<Self::Value>
+        requires cell { (parent_depth ≤ Self.Zuniq.MAX_DEPTH) × (parent_hash < n_hash parent_depth) }
+        requires fits { weight v0 + weight v1 + weight v2 + weight v3 ≤ 4294967295 }
+        ensures accepts { merged result ≡ accept self.now parent_depth parent_hash v0 v1 v2 v3 };
+
+    // Merging leaves the total as it was.
+    ghost keeps_weight: { (m : Self) (d h : ℕ) (a b c e x : Self.Value) → accept m d h a b c e ≡ some x → weight x ≡ weight a + weight b + weight c + weight e };
 }
 
 // Cells of the largest depth have no children.
-const MAX_PARENT_DEPTH: u8 = Zuniq64::MAX_DEPTH - 1;
+const MAX_PARENT_DEPTH: u8 = u64::MAX_DEPTH - 1;
 
 // What both merger calls refuse of a parent, in the order of the table: rows 1 to 3, 15 and 7.
-fn check_quad(
+#[tactic(auto, unfolding(crate::specs::Merge::quad_refusal))]
+fn check_quad<'a>(
     parent_depth: u8,
     parent_hash: u64,
     depth_threshold: u8,
     chi2_threshold: f64,
-    protected: &[u64],
-) -> Check
-    ensures { result ≡ check_of (quad_refusal protected.now depth_threshold chi2_threshold parent_depth parent_hash) }
+    protected: &'a [u64],
+) -> Result<Protected<'a, u64>, Refusal>
+    ensures cases { MatchResult result (λ p. (p.zuniqs.now ≡ protected.now) × (quad_refusal protected.now depth_threshold chi2_threshold parent_depth parent_hash ≡ none)) (λ r. quad_refusal protected.now depth_threshold chi2_threshold parent_depth parent_hash ≡ some r) }
+    ensures cell { OnOk result ((parent_depth ≤ 28) × (parent_hash < n_hash parent_depth)) }
 {
     if parent_depth > MAX_PARENT_DEPTH {
-        return Check::Refused(Refusal::DepthOutOfRange);
+        return Err(Refusal::DepthOutOfRange);
     }
-    if depth_threshold > Zuniq64::MAX_DEPTH {
-        return Check::Refused(Refusal::DepthThresholdOutOfRange);
+    if depth_threshold > u64::MAX_DEPTH {
+        return Err(Refusal::DepthThresholdOutOfRange);
     }
-    if is_nan(chi2_threshold) {
-        return Check::Refused(Refusal::Chi2ThresholdIsNan);
+    if chi2_threshold.is_nan() {
+        return Err(Refusal::Chi2ThresholdIsNan);
     }
-    if let Check::Refused(refusal) = check_protected(protected) {
-        return Check::Refused(refusal);
-    }
+    let protected = Protected::check(protected)?;
     if parent_hash >= n_hash_unchecked(parent_depth) {
-        return Check::Refused(Refusal::HashOutOfRange(0));
+        return Err(Refusal::HashOutOfRange(0));
     }
-    Check::Passed
+    Ok(protected)
 }
 
 // Whether four siblings with this chi-square are merged, if nothing protects their parent.
@@ -104,11 +108,4 @@ fn sum_of(x0: f64, x1: f64, x2: f64, x3: f64) -> f64
     ensures { result ≡ sum_of x0 x1 x2 x3 }
 {
     ((x0 + x1) + x2) + x3
-}
-
-// Only a NaN differs from itself.
-pub fn is_nan(x: f64) -> bool
-    ensures { result ≡ is_nan x }
-{
-    x != x
 }

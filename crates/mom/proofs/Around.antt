@@ -20,6 +20,9 @@ use Rattle.mom.proofs.Ranges.{HasRange, overlaps-meets}
 use Rattle.mom.proofs.Valid.{valid_entry, ranges_rise}
 use Rattle.mom.proofs.Runs.{first_found, first_none, overlapped-part}
 
+abbrev pub run : ℕ → ℕ → Run
+run first len = record { first = first; len = len }
+
 -- The entries found on both sides of the place overlap the query, in any list.
 pub all_found : {K q place first last : ℕ} {zs : List ℕ} {r : ZuniqRange} → HasRange K q r
     → OverlapsBefore K zs r place first → OverlapsFrom K zs r place last → (i : ℕ) → first ≤ i → i < last → overlaps K q (get_or zs i 0) ≡ true
@@ -86,14 +89,14 @@ module _ {K D q : ℕ} {zs : List ℕ} (v : ValidMap K D zs) {query : ZuniqRange
           (λ j l m. all_found h before from j l (omega arith)) (λ j l m. outside j (inr (omega arith)) m)
 
       -- The entries found are the run.
-      pub run_found : first < last → Run.Entries (first_from K q 0 zs) (length (overlapped K zs q)) ≡ Run.Entries first (last - first)
+      pub run_found : first < last → run (first_from K q 0 zs) (length (overlapped K zs q)) ≡ run first (last - first)
       run_found l =
           let f : first_from K q 0 zs ≡ first = first_found K q zs first 0 (omega (arith, from.within)) (all_found h before from first (omega arith) l) (λ j m. outside j (inl m) (omega (arith, from.within))) ∙ omega arith in
           let k : length (overlapped K zs q) ≡ last - first = ap length (found_part (last - first) (omega arith)) ∙ simp (length-take, length-drop) (omega (arith, from.within)) in
           rw (f, k) refl
 
       -- Where none is found, none overlaps the query.
-      pub run_none : last ≤ first → Run.Entries (first_from K q 0 zs) (length (overlapped K zs q)) ≡ Run.Entries 0 0
+      pub run_none : last ≤ first → run (first_from K q 0 zs) (length (overlapped K zs q)) ≡ run 0 0
       run_none l =
           let f : first_from K q 0 zs ≡ 0 = first_none K q zs 0 (λ j m. ⊎_elim (λ a. outside j (inr a) m) (λ a. outside j (inl (omega arith)) m) (le_or_lt last j)) in
           let k : length (overlapped K zs q) ≡ 0 = ap length (found_part 0 (omega (arith, before.within, from.from))) in

@@ -7,6 +7,7 @@ use Prim.Native.Nat.{ℕ, ◌*◌, ◌<◌}
 use native.Mathlib.Omega.{arith}
 use lib.Dec.{ltb}
 use borrow.Author.Tests.{ltb-true, ltb-false}
+use Rattle.std.specs.Prelude.{Option, None, Some}
 use Rattle.zuniq.specs.Cells.{start, end}
 use Rattle.zuniq.specs.Codec.{IsZuniqOf, decode, overlap_test, overlap_of}
 use Rattle.zuniq.specs.declared.Cell.{Cell}
@@ -14,7 +15,6 @@ use Rattle.zuniq.specs.declared.Decoded.{Decoded}
 use Rattle.zuniq.proofs.Basics.{is_false}
 use Rattle.zuniq.proofs.Codec.{decodes}
 use Rattle.mom.specs.declared.ZuniqRange.{ZuniqRange}
-use Rattle.mom.specs.declared.Ranged.{Ranged}
 use Rattle.mom.specs.Map.{is_yes, overlaps}
 use Rattle.mom.specs.Range.{cell_range, range_of, ranges_meet, meets}
 use Rattle.mom.proofs.Overlaps.{overlaps-iff_meets}
@@ -29,11 +29,11 @@ pub record HasRange (K z : ℕ) (r : ZuniqRange) : Type 0 where
   pub valid : IsZuniqOf K z cell.depth cell.hash
 
 module _ (K z : ℕ) where
-  pub has_range : (r : ZuniqRange) → range_of K z ≡ Ranged.Range r → HasRange K z r
+  pub has_range : (r : ZuniqRange) → range_of K z ≡ Some r → HasRange K z r
   unfolding range_of cell_range
   has_range r e = go (decode K z) refl e
     where
-      go : (d : Decoded) → decode K z ≡ d → cell_range K d ≡ Ranged.Range r → HasRange K z r
+      go : (d : Decoded) → decode K z ≡ d → cell_range K d ≡ Some r → HasRange K z r
       go Decoded.Nothing p q = let n : ◌≡◌ {A = ℕ} 0 1 = cc in absurd (omega arith)
       go (Decoded.Cell c) p q =
           let same : r ≡ record { depth = c.depth; start = 2 * start K c.depth c.hash; end = 2 * end K c.depth c.hash } = cc in
@@ -47,11 +47,11 @@ module _ (K z : ℕ) where
           }
 
   -- What has no range is no zuniq.
-  pub has_none : range_of K z ≡ Ranged.Nothing → decode K z ≡ Decoded.Nothing
+  pub has_none : range_of K z ≡ None → decode K z ≡ Decoded.Nothing
   unfolding range_of cell_range
   has_none e = go (decode K z) e
     where
-      go : (d : Decoded) → cell_range K d ≡ Ranged.Nothing → d ≡ Decoded.Nothing
+      go : (d : Decoded) → cell_range K d ≡ None → d ≡ Decoded.Nothing
       go Decoded.Nothing q = refl
       go (Decoded.Cell c) q = let n : ◌≡◌ {A = ℕ} 0 1 = cc in absurd (omega arith)
 
@@ -73,6 +73,6 @@ module _ {K q : ℕ} {r : ZuniqRange} (a : HasRange K q r) where
       tests s law true k false l = is_false _ (λ o. omega (arith, law.0 o, ltb-false))
       tests s law false k y l = is_false _ (λ o. omega (arith, law.0 o, ltb-false))
 
-      go : (x : Ranged) → range_of K z ≡ x → overlaps K q z ≡ ranges_meet r x
-      go Ranged.Nothing g = rw (a.decoded, has_none K z g) refl
-      go (Ranged.Range s) g = tests s (overlaps-iff_ranges_meet (has_range K z s g)) _ refl _ refl
+      go : (x : Option ZuniqRange) → range_of K z ≡ x → overlaps K q z ≡ ranges_meet r x
+      go None g = rw (a.decoded, has_none K z g) refl
+      go (Some s) g = tests s (overlaps-iff_ranges_meet (has_range K z s g)) _ refl _ refl

@@ -9,23 +9,20 @@ use native.Mathlib.Nat.{le_of_suc-le-suc}
 use native.Mathlib.Omega.{arith}
 use lib.ListN.{length, get_or, take, drop}
 use lib.Seq.{take-nil, drop-nil}
+use Rattle.std.specs.Prelude.{None, Some, Ok}
 use Rattle.zuniq.specs.Codec.{decode}
-use Rattle.refusal.specs.declared.Refusal.{Refusal}
 use Rattle.zuniq.specs.declared.Decoded.{Decoded}
 use Rattle.zuniq.proofs.Basics.{is_false}
-use Rattle.zuniq.proofs.Codec.{none_decodes}
-use Rattle.mom.specs.declared.lookup.Containing.{Containing}
 use Rattle.mom.specs.declared.lookup.Run.{Run}
 use Rattle.mom.specs.Map.{overlaps, ValidMap}
 use Rattle.mom.specs.Lookup.{contains, place_from, overlapped, first_from, run_or, overlapping, part_of}
-use Rattle.mom.proofs.Overlaps.{overlaps-valid}
 use Rattle.mom.proofs.Valid.{overlaps-between, contains-once}
 
 -- ---- one entry after the other
 module _ (K q : ℕ) where
   -- The first entry that contains the query is found.
   pub place_found : (zs : List ℕ) (i k : ℕ) → i < length zs → contains K q (get_or zs i 0) ≡ true
-      → ((j : ℕ) → j < i → contains K q (get_or zs j 0) ≡ false) → place_from K q k zs ≡ Containing.At (k + i)
+      → ((j : ℕ) → j < i → contains K q (get_or zs j 0) ≡ false) → place_from K q k zs ≡ Some (k + i)
   unfolding place_from
   place_found [] i k l t none = absurd (omega arith)
   place_found (z ∷ zs) zero k l t none = let e : k + zero ≡ k = omega arith in rw (t, e) refl
@@ -34,36 +31,25 @@ module _ (K q : ℕ) where
       rw (none 0 (omega arith), e) (place_found zs i (suc k) (le_of_suc-le-suc l) t (λ j m. none (suc j) (omega arith)))
 
   -- Where no entry contains it, none is.
-  pub place_none : (zs : List ℕ) (k : ℕ) → ((j : ℕ) → j < length zs → contains K q (get_or zs j 0) ≡ false) → place_from K q k zs ≡ Containing.Nothing
+  pub place_none : (zs : List ℕ) (k : ℕ) → ((j : ℕ) → j < length zs → contains K q (get_or zs j 0) ≡ false) → place_from K q k zs ≡ None
   unfolding place_from
   place_none [] k none = refl
   place_none (z ∷ zs) k none = rw (none 0 (omega arith)) (place_none zs (suc k) (λ j m. none (suc j) (omega arith)))
 
   -- What is found contains the query.
-  found_place : (zs : List ℕ) (k i : ℕ) → place_from K q k zs ≡ Containing.At i → (k ≤ i) × (i < k + length zs) × (contains K q (get_or zs (i - k) 0) ≡ true)
+  found_place : (zs : List ℕ) (k i : ℕ) → place_from K q k zs ≡ Some i → (k ≤ i) × (i < k + length zs) × (contains K q (get_or zs (i - k) 0) ≡ true)
   unfolding place_from
   found_place [] k i e = let n : ◌≡◌ {A = ℕ} 0 1 = cc in absurd (omega arith)
   found_place (z ∷ zs) k i e = go (contains K q z) refl e (found_place zs (suc k) i)
     where
-      go : (b : Bool) → contains K q z ≡ b → cond b (Containing.At k) (place_from K q (suc k) zs) ≡ Containing.At i
-          → (place_from K q (suc k) zs ≡ Containing.At i → (suc k ≤ i) × (i < suc k + length zs) × (contains K q (get_or zs (i - suc k) 0) ≡ true))
+      go : (b : Bool) → contains K q z ≡ b → cond b (Some k) (place_from K q (suc k) zs) ≡ Some i
+          → (place_from K q (suc k) zs ≡ Some i → (suc k ≤ i) × (i < suc k + length zs) × (contains K q (get_or zs (i - suc k) 0) ≡ true))
           → (k ≤ i) × (i < k + length (z ∷ zs)) × (contains K q (get_or (z ∷ zs) (i - k) 0) ≡ true)
       go true t e rest = let n : k ≡ i = cc in let m : i - k ≡ 0 = omega arith in (omega arith, omega arith, rw m t)
       go false t e rest =
           let f = rest e in
           let m : i - k ≡ suc (i - suc k) = omega (arith, f.0) in
           (omega (arith, f.0), omega (arith, f.1), rw m f.2)
-
-  -- Looking for it refuses nothing.
-  pub place_not_refused : (zs : List ℕ) (k : ℕ) (x : Refusal) → place_from K q k zs ≡ Containing.Refused x → ⊥
-  unfolding place_from
-  place_not_refused [] k x e = let n : ◌≡◌ {A = ℕ} 0 1 = cc in omega arith
-  place_not_refused (z ∷ zs) k x e = go (contains K q z) e (place_not_refused zs (suc k) x)
-    where
-      go : (b : Bool) → cond b (Containing.At k) (place_from K q (suc k) zs) ≡ Containing.Refused x
-          → (place_from K q (suc k) zs ≡ Containing.Refused x → ⊥) → ⊥
-      go true e rest = let n : ◌≡◌ {A = ℕ} 0 1 = cc in omega arith
-      go false e rest = rest e
 
   -- The first entry that overlaps the query is found.
   pub first_found : (zs : List ℕ) (i k : ℕ) → i < length zs → overlaps K q (get_or zs i 0) ≡ true
@@ -150,19 +136,23 @@ module _ (K q : ℕ) where
 
 -- ---- over a valid map
 -- The entries that overlap a query are consecutive: they are the part of the map that the run names.
-pub overlapping-part : {K D : ℕ} {zs : List ℕ} → ValidMap K D zs → (q : ℕ) → part_of zs (overlapping K zs q) ≡ overlapped K zs q
+pub overlapping-part : {K D : ℕ} {zs : List ℕ} → ValidMap K D zs → (q : ℕ) (run : Run) → overlapping K zs q ≡ Ok run → part_of zs run ≡ overlapped K zs q
 unfolding part_of overlapping run_or
-overlapping-part {K} {D} {zs} v q = go (decode K q) refl
+overlapping-part {K} {D} {zs} v q run is = go (decode K q) is
   where
-    go : (r : Decoded) → decode K q ≡ r → part_of zs (run_or r (Run.Entries (first_from K q 0 zs) (length (overlapped K zs q)))) ≡ overlapped K zs q
-    go Decoded.Nothing e = sym (overlapped-none K q zs (λ j l. is_false _ (λ t. none_decodes K q e _ _ (overlaps-valid q (get_or zs j 0) t).0.2)))
+    found : Run
+    found = record { first = first_from K q 0 zs; len = length (overlapped K zs q) }
+
+    go : (r : Decoded) → run_or r found ≡ Ok run → part_of zs run ≡ overlapped K zs q
+    go Decoded.Nothing e = let n : ◌≡◌ {A = ℕ} 0 1 = cc in absurd (omega arith)
     go (Decoded.Cell c) e =
+        let same : found ≡ run = cc in
         let n : first_from K q 0 zs - 0 ≡ first_from K q 0 zs = omega arith in
-        rw n at (overlapped-run K q zs 0 (overlaps-between v q))
+        rw (← same) (rw n at (overlapped-run K q zs 0 (overlaps-between v q)))
 
 -- The place found for a query is that of the one entry in which it lies.
 pub place_iff_contains : {K D : ℕ} {zs : List ℕ} → ValidMap K D zs → (q i : ℕ)
-    → (place_from K q 0 zs ≡ Containing.At i) ↔ ((i < length zs) × (contains K q (get_or zs i 0) ≡ true))
+    → (place_from K q 0 zs ≡ Some i) ↔ ((i < length zs) × (contains K q (get_or zs i 0) ≡ true))
 place_iff_contains {K} {D} {zs} v q i = (
   λ e. let f = found_place K q zs 0 i e in let z : i - 0 ≡ i = omega arith in (omega (arith, f.1), rw z at f.2),
   λ p.

@@ -25,16 +25,7 @@ pub Bracket-all : {zs : List ℕ} {q : ℕ} (n : ℕ) → n ≡ length zs → Br
 Bracket-all n e = record { in_order = omega arith; within = omega arith; below = λ l. absurd (omega arith); above = λ l. absurd (omega arith) }
 
 module _ {zs : List ℕ} {q lo hi : ℕ} (b : Bracket zs q lo hi) where
-  -- An entry between the two that is below the query comes before the place sought.
-  pub Bracket-up : (mid : ℕ) → mid < hi → get_or zs mid 0 < q → Bracket zs q (mid + 1) hi
-  Bracket-up mid l m =
-      let e : mid + 1 - 1 ≡ mid = omega arith in
-      record { in_order = omega arith; within = b.within; below = λ _. rw e m; above = b.above }
-
-  -- One that is not below it does not.
-  pub Bracket-down : (mid : ℕ) → lo ≤ mid → mid < hi → q ≤ get_or zs mid 0 → Bracket zs q lo mid
-  Bracket-down mid k l m = record { in_order = k; within = omega (arith, b.within); below = b.below; above = λ _. m }
-
+  -- It ends where nothing is left between the two.
   pub bracket_met : hi ≤ lo → LowerBound zs q lo
   bracket_met l = let e : lo ≡ hi = omega (arith, b.in_order) in record { within = omega (arith, b.within); below = b.below; above = rw e b.above }
 

@@ -1,19 +1,16 @@
 -- Section 3 of the scope: when a map is valid, and what the check answers. A map of depth D is a list of zuniqs; the
 -- values play no part. Over the largest depth K that the type of the zuniqs holds: 29 for 64 bits.
-use Rattle.std.specs.Prelude.{◌≡◌, Bool, false, cond, List, [], ◌∷◌, ℕ, suc, ◌≤◌, ◌<◌, leb, ltb, length, get_or}
-use Rattle.std.proofs.Math.Option.{Option, none, some}
+use Rattle.std.specs.Prelude.{◌≡◌, Bool, false, cond, List, [], ◌∷◌, ℕ, suc, ◌≤◌, ◌<◌, leb, ltb, length, get_or, Option, None, Some, Result, Ok, Err}
 use Rattle.zuniq.specs.Codec.{IsZuniqOf, decode, overlap_test}
 use Rattle.refusal.specs.declared.Refusal.{Refusal}
 use Rattle.zuniq.specs.declared.Decoded.{Decoded}
-use Rattle.zuniq.specs.declared.Overlap.{Overlap}
 use Rattle.mom.specs.declared.Fault.{Fault}
 use Rattle.mom.specs.declared.FirstFault.{FirstFault}
-use Rattle.mom.specs.declared.MapCheck.{MapCheck}
 
 -- whether two values are valid zuniqs that overlap: whether the overlap test says so
-unfoldable pub is_yes : Overlap → Bool
-is_yes (Overlap.Answer b) = b
-is_yes (Overlap.Refused r) = false
+unfoldable pub is_yes : Result Bool Refusal → Bool
+is_yes (Ok b) = b
+is_yes (Err r) = false
 
 unfoldable pub overlaps : ℕ → ℕ → ℕ → Bool
 overlaps K y z = is_yes (overlap_test K y z)
@@ -31,35 +28,31 @@ pub record ValidMap (K D : ℕ) (zs : List ℕ) : Type 0 where
 
 -- "not above its predecessor, overlapping it": the first entry has no predecessor
 unfoldable pub fault_after : ℕ → Option ℕ → ℕ → Option Fault
-fault_after K none z = none
-fault_after K (some y) z = cond (leb z y) (some Fault.NotAbove) (cond (overlaps K y z) (some Fault.Overlapping) none)
+fault_after K None z = None
+fault_after K (Some y) z = cond (leb z y) (Some Fault.NotAbove) (cond (overlaps K y z) (Some Fault.Overlapping) None)
 
 -- "not a zuniq, too deep", then those against the predecessor
 unfoldable pub fault_of : ℕ → Decoded → Option Fault → Option Fault
-fault_of D Decoded.Nothing after = some Fault.NotZuniq
-fault_of D (Decoded.Cell c) after = cond (ltb D c.depth) (some Fault.TooDeep) after
+fault_of D Decoded.Nothing after = Some Fault.NotZuniq
+fault_of D (Decoded.Cell c) after = cond (ltb D c.depth) (Some Fault.TooDeep) after
 
 -- "the first fault there of: not a zuniq, too deep, not above its predecessor, overlapping it": of the entry z of a map
 -- of depth D, behind the entry `before`
 unfoldable pub fault_at : ℕ → ℕ → Option ℕ → ℕ → Option Fault
 fault_at K D before z = fault_of D (decode K z) (fault_after K before z)
 
-unfoldable pub at_or : ℕ → Option Fault → FirstFault → FirstFault
-at_or i none later = later
-at_or i (some fault) later = FirstFault.At i fault
+unfoldable pub at_or : ℕ → Option Fault → Option FirstFault → Option FirstFault
+at_or i None later = later
+at_or i (Some fault) later = Some (record { place = i; fault = fault })
 
 -- "the first faulty place and the first fault there", of the entries from place i on
-unfoldable pub fault_from : ℕ → ℕ → ℕ → Option ℕ → List ℕ → FirstFault
-fault_from K D i before [] = FirstFault.Nothing
-fault_from K D i before (z ∷ zs) = at_or i (fault_at K D before z) (fault_from K D (suc i) (some z) zs)
+unfoldable pub fault_from : ℕ → ℕ → ℕ → Option ℕ → List ℕ → Option FirstFault
+fault_from K D i before [] = None
+fault_from K D i before (z ∷ zs) = at_or i (fault_at K D before z) (fault_from K D (suc i) (Some z) zs)
 
-unfoldable pub first_fault : ℕ → ℕ → List ℕ → FirstFault
-first_fault K D zs = fault_from K D 0 none zs
+unfoldable pub first_fault : ℕ → ℕ → List ℕ → Option FirstFault
+first_fault K D zs = fault_from K D 0 None zs
 
 -- "The check answers valid, or the first faulty place and the first fault there", and refuses by 1.
-unfoldable pub valid_or : FirstFault → MapCheck
-valid_or FirstFault.Nothing = MapCheck.Valid
-valid_or (FirstFault.At i fault) = MapCheck.Faulty i fault
-
-unfoldable pub map_check : ℕ → ℕ → List ℕ → MapCheck
-map_check K D zs = cond (ltb K D) (MapCheck.Refused Refusal.DepthOutOfRange) (valid_or (first_fault K D zs))
+unfoldable pub map_check : ℕ → ℕ → List ℕ → Result (Option FirstFault) Refusal
+map_check K D zs = cond (ltb K D) (Err Refusal.DepthOutOfRange) (Ok (first_fault K D zs))

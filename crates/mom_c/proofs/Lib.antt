@@ -1,1 +1,1 @@
-pub mod Added
+mod Told

@@ -4,13 +4,13 @@ ghost use Rattle.std.specs.Prelude.{◌≡◌};
 ghost use Rattle.words.specs.Words.{asked_word};
 ghost use Rattle.combine.specs.Pool.{Given, pool_counts, product_densities};
 ghost use Rattle.combine.specs.Ask.{ask_counts, commit_counts};
-ghost use Rattle.mom_c.specs.Answers.{counts_added_word, densities_added_word};
+ghost use Rattle.mom_c.specs.Answers.{counts_added_word, buffers_told};
 
 use ask::{ask, commit};
 use combine::counts::Figures;
-use map_words::{asked_word, counts_word, densities_word};
 use pool::pool;
 use product::product;
+use words::{asked_word, counts_word, number_word};
 
 // Pools two count maps into two output buffers: the number of entries, and their total.
 #[unsafe(no_mangle)]
@@ -137,9 +137,9 @@ pub extern "C" fn mom_product(
     zuniqs: &mut [u64],
     densities: &mut [f64],
 ) -> u64
-    ensures { (result, zuniqs.new, densities.new) ≡ densities_added_word (product_densities protected.now (record { depth = left_depth; zuniqs = left_zuniqs.now; values = left_densities.now }) (record { depth = right_depth; zuniqs = right_zuniqs.now; values = right_densities.now }) depth_threshold chi2_threshold k zuniqs.old densities.old) }
+    ensures { (result, zuniqs.new, densities.new) ≡ buffers_told (product_densities protected.now (record { depth = left_depth; zuniqs = left_zuniqs.now; values = left_densities.now }) (record { depth = right_depth; zuniqs = right_zuniqs.now; values = right_densities.now }) depth_threshold chi2_threshold k zuniqs.old densities.old) }
 {
-    densities_word(product(
+    number_word(product(
         left_depth,
         left_zuniqs,
         left_densities,

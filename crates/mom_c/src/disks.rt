@@ -5,23 +5,23 @@
 // 4); then an output that is shorter than the input (11).
 ghost use Rattle.std.specs.Prelude.{◌≡◌};
 ghost use Rattle.columns.specs.Columns.{rows_to_columns, columns_to_rows};
-ghost use Rattle.mom_c.specs.Ingest.{told};
+ghost use Rattle.mom_c.specs.Answers.{number_told};
 
 use columns::{columns_to_rows, rows_to_columns};
-use map_words::rows_word;
+use words::number_word;
 
 // Lays rows out by byte column: the number of rows.
 #[unsafe(no_mangle)]
 pub extern "C" fn mom_rows_to_columns(row_size: usize, rows: &[u8], columns: &mut [u8]) -> u64
-    ensures { (result, «columns».new) ≡ told (rows_to_columns row_size «rows».now «columns».old) }
+    ensures { (result, «columns».new) ≡ number_told (rows_to_columns row_size «rows».now «columns».old) }
 {
-    rows_word(rows_to_columns(row_size, rows, columns))
+    number_word(rows_to_columns(row_size, rows, columns))
 }
 
 // Takes byte columns back to rows: the number of rows.
 #[unsafe(no_mangle)]
 pub extern "C" fn mom_columns_to_rows(row_size: usize, columns: &[u8], rows: &mut [u8]) -> u64
-    ensures { (result, «rows».new) ≡ told (columns_to_rows row_size «columns».now «rows».old) }
+    ensures { (result, «rows».new) ≡ number_told (columns_to_rows row_size «columns».now «rows».old) }
 {
-    rows_word(columns_to_rows(row_size, columns, rows))
+    number_word(columns_to_rows(row_size, columns, rows))
 }

@@ -6,41 +6,42 @@
 // zuniqs.
 ghost use Rattle.std.specs.Prelude.{◌≡◌};
 ghost use Rattle.zuniq.specs.Codec.{encode, decode, overlap_test};
-ghost use Rattle.zuniq.specs.Codec32.{encoded32, decoded32};
 ghost use Rattle.mom.specs.Map.{map_check};
 ghost use Rattle.build.specs.Counts.{add_counts};
 ghost use Rattle.rows.specs.Rows.{narrow_rows, read_rows, write_rows};
 ghost use Rattle.map_rows.specs.MapRows.{narrow, check_rows};
-ghost use Rattle.words.specs.Words.{encoded32_word, decoded32_word, overlap_word, map_check_word};
-ghost use Rattle.mom_c.specs.Answers.{ContainingIs, RunIs, counts_added_word};
-ghost use Rattle.mom_c.specs.Ingest.{told, ContainingInRows, RunInRows};
+ghost use Rattle.words.specs.Words.{value_word, decoded_word, overlap_word, map_check_word};
+ghost use Rattle.mom_c.specs.Answers.{ContainingIs, RunIs, counts_added_word, number_told};
+ghost use Rattle.mom_c.specs.Ingest.{ContainingInRows, RunInRows};
 
-use map_words::{containing_word, counts_word, map_check_word, rows_word, run_word};
-use narrow::check_is_mom;
-use narrow::lookup::{get_cell_containing, get_overlapped_run};
-use narrow_counts::add_counts;
-use narrow_map_rows::{
+use build_counts::add_counts;
+use lookup::{get_cell_containing, get_overlapped_run};
+use map_rows::{
     check_is_mom as check_rows, get_cell_containing as get_row_containing,
     get_overlapped_run as get_overlapped_rows,
 };
-use rows::{read_narrow_rows, write_narrow_rows};
-use words::{cell32_word, overlap_word, zuniq32_word};
-use zuniq::narrow::Zuniq32;
+use mom::check_is_mom;
+use rows::{read_rows, write_rows};
+use words::{
+    cell_word, containing_word, counts_word, map_check_word, number_word, overlap_word, run_word,
+    value_word,
+};
+use zuniq::ZUniqHashT;
 
 // The zuniq of a cell.
 #[unsafe(no_mangle)]
 pub extern "C" fn mom32_to_zuniq(depth: u8, hash: u32, zuniq: &mut u32) -> u64
-    ensures { (result, «zuniq».new) ≡ encoded32_word (encoded32 (encode 13 depth hash)) «zuniq».old }
+    ensures { (result, «zuniq».new) ≡ value_word (encode 13 depth hash) «zuniq».old }
 {
-    zuniq32_word(Zuniq32::to_zuniq(depth, hash), zuniq)
+    value_word(u32::to_zuniq(depth, hash), zuniq)
 }
 
 // The cell of a zuniq, or that there is none.
 #[unsafe(no_mangle)]
 pub extern "C" fn mom32_from_zuniq(zuniq: u32, depth: &mut u8, hash: &mut u32) -> u64
-    ensures { (result, depth.new, hash.new) ≡ decoded32_word (decoded32 (decode 13 «zuniq»)) depth.old hash.old }
+    ensures { (result, depth.new, hash.new) ≡ decoded_word (decode 13 «zuniq») depth.old hash.old }
 {
-    cell32_word(Zuniq32::from_zuniq(zuniq), depth, hash)
+    cell_word(zuniq, depth, hash)
 }
 
 // Whether two zuniqs overlap, 1 or 0.
@@ -48,23 +49,23 @@ pub extern "C" fn mom32_from_zuniq(zuniq: u32, depth: &mut u8, hash: &mut u32) -
 pub extern "C" fn mom32_are_overlapping(zuniq_l: u32, zuniq_r: u32) -> u64
     ensures { result ≡ overlap_word (overlap_test 13 zuniq_l zuniq_r) }
 {
-    overlap_word(Zuniq32::are_overlapping(zuniq_l, zuniq_r))
+    overlap_word(u32::are_overlapping(zuniq_l, zuniq_r))
 }
 
 // Reads rows into two buffers: the number of rows.
 #[unsafe(no_mangle)]
 pub extern "C" fn mom32_read_count_rows(bytes: &[u8], zuniqs: &mut [u32], counts: &mut [u32]) -> u64
-    ensures { (result, narrow_rows zuniqs.new counts.new) ≡ told (read_rows (narrow_rows zuniqs.old counts.old) bytes.now) }
+    ensures { (result, narrow_rows zuniqs.new counts.new) ≡ number_told (read_rows (narrow_rows zuniqs.old counts.old) bytes.now) }
 {
-    rows_word(read_narrow_rows(bytes, zuniqs, counts))
+    number_word(read_rows(bytes, zuniqs, counts))
 }
 
 // Writes rows from two buffers: the number of rows.
 #[unsafe(no_mangle)]
 pub extern "C" fn mom32_write_count_rows(zuniqs: &[u32], counts: &[u32], bytes: &mut [u8]) -> u64
-    ensures { (result, bytes.new) ≡ told (write_rows (narrow_rows zuniqs.now counts.now) bytes.old) }
+    ensures { (result, bytes.new) ≡ number_told (write_rows (narrow_rows zuniqs.now counts.now) bytes.old) }
 {
-    rows_word(write_narrow_rows(zuniqs, counts, bytes))
+    number_word(write_rows(zuniqs, counts, bytes))
 }
 
 // Whether rows are a valid map, or its first fault with the place.
@@ -72,7 +73,7 @@ pub extern "C" fn mom32_write_count_rows(zuniqs: &[u32], counts: &[u32], bytes: 
 pub extern "C" fn mom32_check_is_mom(depth: u8, bytes: &[u8]) -> u64
     ensures { result ≡ map_check_word (check_rows narrow depth bytes.now) }
 {
-    map_check_word(check_rows(depth, bytes))
+    map_check_word(check_rows::<u32>(depth, bytes))
 }
 
 // The row of the entry in which a cell of the map's depth lies, or that there is none.

@@ -10,8 +10,8 @@
 #![tactic(auto)]
 
 ghost use Rattle.std.specs.Prelude.{◌≡◌};
-ghost use Rattle.words.specs.Words.{cell_number_word, encoded_word, decoded_word, overlap_word, count_merger_word, density_merger_word, map_check_word};
-ghost use Rattle.mom_c.specs.Answers.{ContainingIs, RunIs, counts_added_word, densities_added_word};
+ghost use Rattle.words.specs.Words.{value_word, decoded_word, overlap_word, count_merger_word, density_merger_word, map_check_word};
+ghost use Rattle.mom_c.specs.Answers.{ContainingIs, RunIs, counts_added_word, buffers_told};
 ghost use Rattle.zuniq.specs.Codec.{cell_number, encode, decode, overlap_test};
 ghost use Rattle.merger.specs.Merge.{count_merger, density_merger};
 ghost use Rattle.mom.specs.Map.{map_check};
@@ -21,13 +21,13 @@ ghost use Rattle.build.specs.Densities.{add_densities};
 use build_counts::add_counts;
 use build_densities::add_densities;
 use lookup::{get_cell_containing, get_overlapped_run};
-use map_words::{containing_word, counts_word, densities_word, map_check_word, run_word};
 use merger::{chi2_count_merger, chi2_density_merger};
 use mom::check_is_mom;
 use words::{
-    cell_word, cells_word, count_merger_word, density_merger_word, overlap_word, zuniq_word,
+    cell_word, containing_word, count_merger_word, counts_word, density_merger_word,
+    map_check_word, number_word, overlap_word, run_word, value_word,
 };
-use zuniq::Zuniq64;
+use zuniq::ZUniqHashT;
 
 mod combining;
 mod disks;
@@ -39,17 +39,17 @@ mod widths;
 // The number of cells at a depth.
 #[unsafe(no_mangle)]
 pub extern "C" fn mom_n_hash(depth: u8, n_hash: &mut u64) -> u64
-    ensures { (result, n_hash.new) ≡ cell_number_word (cell_number 29 depth) n_hash.old }
+    ensures { (result, n_hash.new) ≡ value_word (cell_number 29 depth) n_hash.old }
 {
-    cells_word(zuniq::n_hash(depth), n_hash)
+    value_word(zuniq::n_hash(depth), n_hash)
 }
 
 // The zuniq of a cell.
 #[unsafe(no_mangle)]
 pub extern "C" fn mom_to_zuniq(depth: u8, hash: u64, zuniq: &mut u64) -> u64
-    ensures { (result, «zuniq».new) ≡ encoded_word (encode 29 depth hash) «zuniq».old }
+    ensures { (result, «zuniq».new) ≡ value_word (encode 29 depth hash) «zuniq».old }
 {
-    zuniq_word(Zuniq64::to_zuniq(depth, hash), zuniq)
+    value_word(u64::to_zuniq(depth, hash), zuniq)
 }
 
 // The cell of a zuniq, or that there is none.
@@ -57,7 +57,7 @@ pub extern "C" fn mom_to_zuniq(depth: u8, hash: u64, zuniq: &mut u64) -> u64
 pub extern "C" fn mom_from_zuniq(zuniq: u64, depth: &mut u8, hash: &mut u64) -> u64
     ensures { (result, depth.new, hash.new) ≡ decoded_word (decode 29 «zuniq») depth.old hash.old }
 {
-    cell_word(Zuniq64::from_zuniq(zuniq), depth, hash)
+    cell_word(zuniq, depth, hash)
 }
 
 // Whether two zuniqs overlap, 1 or 0.
@@ -65,7 +65,7 @@ pub extern "C" fn mom_from_zuniq(zuniq: u64, depth: &mut u8, hash: &mut u64) -> 
 pub extern "C" fn mom_are_overlapping(zuniq_l: u64, zuniq_r: u64) -> u64
     ensures { result ≡ overlap_word (overlap_test 29 zuniq_l zuniq_r) }
 {
-    overlap_word(Zuniq64::are_overlapping(zuniq_l, zuniq_r))
+    overlap_word(u64::are_overlapping(zuniq_l, zuniq_r))
 }
 
 // The count of a parent's four merged children, or that they are kept, with their chi-square.
@@ -199,9 +199,9 @@ pub extern "C" fn mom_add_densities(
     hashes: &[u64],
     batch: &[f64],
 ) -> u64
-    ensures { (result, zuniqs.new, densities.new) ≡ densities_added_word (add_densities protected.now depth depth_threshold chi2_threshold held zuniqs.old densities.old hashes.now batch.now) }
+    ensures { (result, zuniqs.new, densities.new) ≡ buffers_told (add_densities protected.now depth depth_threshold chi2_threshold held zuniqs.old densities.old hashes.now batch.now) }
 {
-    densities_word(add_densities(
+    number_word(add_densities(
         depth,
         depth_threshold,
         chi2_threshold,

@@ -8,11 +8,11 @@ ghost use Rattle.std.specs.Prelude.{◌≡◌};
 ghost use Rattle.combine.specs.Pool.{Given};
 ghost use Rattle.coverage.specs.Coverage.{coverage_call};
 ghost use Rattle.clip.specs.Call.{clip_call};
-ghost use Rattle.mom_c.specs.Answers.{covered_ranges_word, clipped_map_word};
+ghost use Rattle.mom_c.specs.Answers.{buffers_told};
 
 use clip::clip;
 use coverage::coverage;
-use map_words::{clipped_word, coverage_word};
+use words::number_word;
 
 // Writes the coverage of a map into two output buffers: the number of ranges.
 #[unsafe(no_mangle)]
@@ -22,9 +22,9 @@ pub extern "C" fn mom_coverage(
     starts: &mut [u64],
     ends: &mut [u64],
 ) -> u64
-    ensures { (result, starts.new, ends.new) ≡ covered_ranges_word (coverage_call depth zuniqs.now starts.old ends.old) }
+    ensures { (result, starts.new, ends.new) ≡ buffers_told (coverage_call depth zuniqs.now starts.old ends.old) }
 {
-    coverage_word(coverage(depth, zuniqs, starts, ends))
+    number_word(coverage(depth, zuniqs, starts, ends))
 }
 
 // Clips a density map to a coverage, into two output buffers: the number of cells.
@@ -38,9 +38,9 @@ pub extern "C" fn mom_clip(
     zuniqs: &mut [u64],
     densities: &mut [f64],
 ) -> u64
-    ensures { (result, zuniqs.new, densities.new) ≡ clipped_map_word (clip_call (record { depth = depth; zuniqs = map_zuniqs.now; values = map_densities.now }) starts.now ends.now zuniqs.old densities.old) }
+    ensures { (result, zuniqs.new, densities.new) ≡ buffers_told (clip_call (record { depth = depth; zuniqs = map_zuniqs.now; values = map_densities.now }) starts.now ends.now zuniqs.old densities.old) }
 {
-    clipped_word(clip(
+    number_word(clip(
         depth,
         map_zuniqs,
         map_densities,

@@ -7,8 +7,8 @@ ghost use Rattle.std.specs.Prelude.{◌≡◌};
 ghost use Rattle.moving.specs.Moving.{moved};
 ghost use Rattle.mom_c.specs.Answers.{moved_map_word};
 
-use map_words::moved_word;
-use moving::{narrow, widen};
+use moving::move_map;
+use words::moved_word;
 
 // Writes a count map anew in u32 zuniqs: the number of entries, and the depth.
 #[unsafe(no_mangle)]
@@ -22,7 +22,7 @@ pub extern "C" fn mom_narrow(
 ) -> u64
     ensures { (result, out_depth.new, out_zuniqs.new, out_counts.new) ≡ moved_map_word (moved 29 13 depth zuniqs.now counts.now out_zuniqs.old out_counts.old) out_depth.old }
 {
-    let answer = narrow(depth, zuniqs, counts, out_zuniqs, out_counts);
+    let answer = move_map(depth, zuniqs, counts, out_zuniqs, out_counts);
     moved_word(answer, out_depth)
 }
 
@@ -38,6 +38,6 @@ pub extern "C" fn mom_widen(
 ) -> u64
     ensures { (result, out_depth.new, out_zuniqs.new, out_counts.new) ≡ moved_map_word (moved 13 29 depth zuniqs.now counts.now out_zuniqs.old out_counts.old) out_depth.old }
 {
-    let answer = widen(depth, zuniqs, counts, out_zuniqs, out_counts);
+    let answer = move_map(depth, zuniqs, counts, out_zuniqs, out_counts);
     moved_word(answer, out_depth)
 }

@@ -3,10 +3,10 @@ use Rattle.std.proofs.Common.{◌≡◌, ℕ, zero, suc, ◌+◌, ◌≤◌, Lis
 use lib.Seq.{take_at, take-add, take-append-le}
 use borrow.Rule.Slice.PartMut.{put_mid, post_of}
 use Rattle.mombuild.specs.Mombuild.{step_of}
-use Rattle.mombuild.specs.declared.Step.{Step}
+use Rattle.std.specs.declared.ops.ControlFlow.TheVariants.{Continue}
 
 -- More bytes are those that the read answered.
-pub more_is : {E : Type 0} (answer : Result ℕ E) (n : ℕ) {bytes : ℕ} → step_of answer n ≡ Step.More bytes → answer ≡ Ok bytes
+pub more_is : {E : Type 0} (answer : Result ℕ E) (n : ℕ) {bytes : ℕ} → step_of answer n ≡ Continue bytes → answer ≡ Ok bytes
 more_is (Err e) n s = let z : ◌≡◌ {A = ℕ} 0 1 = cc in absurd (omega arith)
 more_is (Ok zero) n s = let z : ◌≡◌ {A = ℕ} 0 1 = cc in absurd (omega arith)
 more_is (Ok (suc k)) n {bytes} s = let same : suc k ≡ bytes = cc in ap Ok same

@@ -4,7 +4,6 @@
 use mathlib.Core.Path.{◌≡◌, refl, ap, sym, ◌∙◌}
 use mathlib.Core.Bool.{Bool, true, false, cond}
 use mathlib.Core.List.{List, [], ◌∷◌}
-use mathlib.Core.Option.{some}
 use Prim.Native.Nat.{ℕ, zero, suc, ◌+◌, ◌*◌, ◌-◌, ◌≤◌, ◌<◌}
 use native.Mathlib.Omega.{arith}
 use lib.Dec.{eqb, leb, ltb}
@@ -14,9 +13,9 @@ use borrow.Author.Tests.{lt-ltb, le-ltb, leb-true, leb-false, ltb-true, ltb-fals
 use Rattle.text.specs.Text.{lf, comma, position, up_to, past, number}
 use Rattle.mombuild.specs.Mombuild.{reading_of, reading, printed, mombuild}
 use Rattle.map_text.specs.Lines.{settings_of, settings_line, first_settings, cell_of, cell_line, first_cell, Cells, no_cells, with_cell, unless_ended, cells}
-use Rattle.text.specs.declared.Number.{Number}
-use Rattle.map_text.specs.declared.read.SettingsLine.{SettingsLine}
-use Rattle.map_text.specs.declared.read.CellLine.{CellLine}
+use Rattle.map_text.specs.declared.read.Settings.{Settings}
+use Rattle.map_text.specs.declared.read.CountedCell.{CountedCell}
+use Rattle.std.specs.Prelude.{Option, Some, None}
 use Rattle.text.proofs.Parts.{position-le}
 use Rattle.text.proofs.Numbers.{number-of_many}
 
@@ -30,14 +29,14 @@ unfolding past
 length-past b l = length-drop (position b l + 1) l
 
 -- Of two fields in more than 41 bytes one is longer than a number.
-cell_long : (line : List ℕ) → 41 < length line → cell_line line ≡ CellLine.Unreadable
+cell_long : (line : List ℕ) → 41 < length line → cell_line line ≡ None
 unfolding cell_line
 cell_long line p = by (leb (position comma line) 20) refl (number 18446744073709551615 (up_to comma line)) refl
   where
-    by : (t : Bool) → leb (position comma line) 20 ≡ t → (x : Number) → number 18446744073709551615 (up_to comma line) ≡ x
-        → cell_of (number 18446744073709551615 (up_to comma line)) (number 4294967295 (past comma line)) ≡ CellLine.Unreadable
-    by true e Number.Unreadable q = rw q refl
-    by true e (Number.Value h) q =
+    by : (t : Bool) → leb (position comma line) 20 ≡ t → (x : Option ℕ) → number 18446744073709551615 (up_to comma line) ≡ x
+        → cell_of (number 18446744073709551615 (up_to comma line)) (number 4294967295 (past comma line)) ≡ None
+    by true e None q = rw q refl
+    by true e (Some h) q =
         let short = leb-true (position comma line) 20 e in
         rw (q, number-of_many 4294967295 (past comma line) (omega (arith, length-past comma line))) refl
     by false e x q =
@@ -45,21 +44,21 @@ cell_long line p = by (leb (position comma line) 20) refl (number 18446744073709
         rw (number-of_many 18446744073709551615 (up_to comma line) (omega (arith, length_up_to comma line))) refl
 
 -- Of three in more than 62 bytes likewise.
-settings_long : (line : List ℕ) → 62 < length line → settings_line line ≡ SettingsLine.Unreadable
+settings_long : (line : List ℕ) → 62 < length line → settings_line line ≡ None
 unfolding settings_line
 settings_long line p = by (leb (position comma line) 20) refl (leb (position comma (past comma line)) 20) refl (number 255 (up_to comma line)) refl (number 255 (up_to comma (past comma line))) refl
   where
     by : (t : Bool) → leb (position comma line) 20 ≡ t → (u : Bool) → leb (position comma (past comma line)) 20 ≡ u
-        → (x : Number) → number 255 (up_to comma line) ≡ x → (y : Number) → number 255 (up_to comma (past comma line)) ≡ y
-        → settings_of (number 255 (up_to comma line)) (number 255 (up_to comma (past comma line))) (number 4294967295 (past comma (past comma line))) ≡ SettingsLine.Unreadable
-    by true e u f Number.Unreadable q y r = rw q refl
-    by true e u f (Number.Value D) q Number.Unreadable r = rw (q, r) refl
-    by true e true f (Number.Value D) q (Number.Value M) r =
+        → (x : Option ℕ) → number 255 (up_to comma line) ≡ x → (y : Option ℕ) → number 255 (up_to comma (past comma line)) ≡ y
+        → settings_of (number 255 (up_to comma line)) (number 255 (up_to comma (past comma line))) (number 4294967295 (past comma (past comma line))) ≡ None
+    by true e u f None q y r = rw q refl
+    by true e u f (Some D) q None r = rw (q, r) refl
+    by true e true f (Some D) q (Some M) r =
         let first = leb-true (position comma line) 20 e in
         let second = leb-true (position comma (past comma line)) 20 f in
         let rest = length-past comma line in
         rw (q, r, number-of_many 4294967295 (past comma (past comma line)) (omega (arith, rest, length-past comma (past comma line)))) refl
-    by true e false f (Number.Value D) q (Number.Value M) r =
+    by true e false f (Some D) q (Some M) r =
         let long = leb-false (position comma (past comma line)) 20 f in
         rw (q, number-of_many 255 (up_to comma (past comma line)) (omega (arith, length_up_to comma (past comma line)))) refl
     by false e u f x q y r =
@@ -131,37 +130,37 @@ past_of_take n l p = rw (position-within lf n l p) (drop_of_take (position lf l 
 -- ---- lines
 cell_of_take : (n : ℕ) (l : List ℕ) → 42 ≤ n → first_cell (take n l) ≡ first_cell l
 unfolding first_cell
-cell_of_take n l p = first-of_take cell_line CellLine.Unreadable n l (λ line q. cell_long line (omega arith))
+cell_of_take n l p = first-of_take cell_line None n l (λ line q. cell_long line (omega arith))
 
 settings_of_take : (n : ℕ) (l : List ℕ) → 63 ≤ n → first_settings (take n l) ≡ first_settings l
 unfolding first_settings
-settings_of_take n l p = first-of_take settings_line SettingsLine.Unreadable n l (λ line q. settings_long line (omega arith))
+settings_of_take n l p = first-of_take settings_line None n l (λ line q. settings_long line (omega arith))
 
 -- A line that is read is short.
-cell_short : (l : List ℕ) (h m : ℕ) → first_cell l ≡ CellLine.Cell h m → position lf l ≤ 41
+cell_short : (l : List ℕ) (c : CountedCell) → first_cell l ≡ Some c → position lf l ≤ 41
 unfolding first_cell up_to
-cell_short l h m e = by (leb (position lf l) 41) refl (ltb (position lf l) (length l)) refl e
+cell_short l c e = by (leb (position lf l) 41) refl (ltb (position lf l) (length l)) refl e
   where
     by : (t : Bool) → leb (position lf l) 41 ≡ t → (u : Bool) → ltb (position lf l) (length l) ≡ u
-        → cond u (cell_line (take (position lf l) l)) CellLine.Unreadable ≡ CellLine.Cell h m → position lf l ≤ 41
+        → cond u (cell_line (take (position lf l) l)) None ≡ Some c → position lf l ≤ 41
     by true p u g e = leb-true (position lf l) 41 p
     by false p true g e =
         let long = leb-false (position lf l) 41 p in
-        let s = cell_long (take (position lf l) l) (omega (arith, length-take-le (position lf l) l (position-le lf l))) in
+        let none = cell_long (take (position lf l) l) (omega (arith, length-take-le (position lf l) l (position-le lf l))) in
         let z : ◌≡◌ {A = ℕ} 0 1 = cc in
         absurd (omega arith)
     by false p false g e = let z : ◌≡◌ {A = ℕ} 0 1 = cc in absurd (omega arith)
 
-settings_short : (l : List ℕ) (D M T : ℕ) → first_settings l ≡ SettingsLine.Settings D M T → position lf l ≤ 62
+settings_short : (l : List ℕ) (s : Settings) → first_settings l ≡ Some s → position lf l ≤ 62
 unfolding first_settings up_to
-settings_short l D M T e = by (leb (position lf l) 62) refl (ltb (position lf l) (length l)) refl e
+settings_short l s e = by (leb (position lf l) 62) refl (ltb (position lf l) (length l)) refl e
   where
     by : (t : Bool) → leb (position lf l) 62 ≡ t → (u : Bool) → ltb (position lf l) (length l) ≡ u
-        → cond u (settings_line (take (position lf l) l)) SettingsLine.Unreadable ≡ SettingsLine.Settings D M T → position lf l ≤ 62
+        → cond u (settings_line (take (position lf l) l)) None ≡ Some s → position lf l ≤ 62
     by true p u g e = leb-true (position lf l) 62 p
     by false p true g e =
         let long = leb-false (position lf l) 62 p in
-        let s = settings_long (take (position lf l) l) (omega (arith, length-take-le (position lf l) l (position-le lf l))) in
+        let none = settings_long (take (position lf l) l) (omega (arith, length-take-le (position lf l) l (position-le lf l))) in
         let z : ◌≡◌ {A = ℕ} 0 1 = cc in
         absurd (omega arith)
     by false p false g e = let z : ◌≡◌ {A = ℕ} 0 1 = cc in absurd (omega arith)
@@ -175,28 +174,28 @@ unless_of_take (suc n) (x ∷ l) c p = refl
 
 cells-of_take : (left line n : ℕ) (l : List ℕ) → 42 * left + 1 ≤ n → cells left line (take n l) ≡ cells left line l
 unfolding cells
-cells-of_take zero line n l p = unless_of_take n l (no_cells (some line)) (omega arith)
+cells-of_take zero line n l p = unless_of_take n l (no_cells (Some line)) (omega arith)
 cells-of_take (suc left) line n l p =
     unless_of_take n l (with_cell (first_cell (take n l)) line (cells left (line + 1) (past lf (take n l)))) (omega arith)
     ∙ ap (unless_ended l) (rw (cell_of_take n l (omega arith)) (by (first_cell l) refl (cells-of_take left (line + 1))))
   where
-    by : (x : CellLine) → first_cell l ≡ x → ((n : ℕ) (l : List ℕ) → 42 * left + 1 ≤ n → cells left (line + 1) (take n l) ≡ cells left (line + 1) l)
+    by : (x : Option CountedCell) → first_cell l ≡ x → ((n : ℕ) (l : List ℕ) → 42 * left + 1 ≤ n → cells left (line + 1) (take n l) ≡ cells left (line + 1) l)
         → with_cell x line (cells left (line + 1) (past lf (take n l))) ≡ with_cell x line (cells left (line + 1) (past lf l))
-    by CellLine.Unreadable e ih = refl
-    by (CellLine.Cell h m) e ih =
-        let short = cell_short l h m e in
-        ap (with_cell (CellLine.Cell h m) line)
+    by None e ih = refl
+    by (Some c) e ih =
+        let short = cell_short l c e in
+        ap (with_cell (Some c) line)
         (ap (cells left (line + 1)) (past_of_take n l (omega arith)) ∙ ih (n - (position lf l + 1)) (past lf l) (omega arith))
 
 reading-of_take : (n : ℕ) (l : List ℕ) → 86080 ≤ n → reading (take n l) ≡ reading l
 unfolding reading
 reading-of_take n l p = rw (settings_of_take n l (omega arith)) (by (first_settings l) refl)
   where
-    by : (x : SettingsLine) → first_settings l ≡ x → reading_of x (cells 2048 2 (past lf (take n l))) ≡ reading_of x (cells 2048 2 (past lf l))
-    by SettingsLine.Unreadable e = refl
-    by (SettingsLine.Settings D M T) e =
-        let short = settings_short l D M T e in
-        ap (reading_of (SettingsLine.Settings D M T))
+    by : (x : Option Settings) → first_settings l ≡ x → reading_of x (cells 2048 2 (past lf (take n l))) ≡ reading_of x (cells 2048 2 (past lf l))
+    by None e = refl
+    by (Some s) e =
+        let short = settings_short l s e in
+        ap (reading_of (Some s))
         (ap (cells 2048 2) (past_of_take n l (omega arith)) ∙ cells-of_take 2048 2 (n - (position lf l + 1)) (past lf l) (omega arith))
 
 -- What is printed for the first 86,080 bytes, or more, is printed for the whole text.

@@ -1,15 +1,16 @@
 -- Section 7 of the scope: what the program `mombuild` reads and prints.
-use Rattle.std.specs.Prelude.{◌≡◌, cond, List, [], ◌∷◌, ◌++◌, ℕ, zero, suc, ◌+◌, eqb, Float, Result, Ok, Err, length, take, replicate}
-use Rattle.std.proofs.Math.Option.{Option, none, some}
+use Rattle.std.specs.Prelude.{◌≡◌, cond, List, [], ◌∷◌, ◌++◌, ℕ, zero, suc, ◌+◌, eqb, Float, Option, Some, None, Result, Ok, Err, length, take, replicate}
+use Rattle.std.specs.declared.ops.ControlFlow.{ControlFlow}
+use Rattle.std.specs.declared.ops.ControlFlow.TheVariants.{Break, Continue}
 use Rattle.refusal.specs.Refusals.{number_of, place_of}
+use Rattle.refusal.specs.declared.Refusal.{Refusal}
 use Rattle.merger.specs.Floats.{◌⊘◌, float}
 use Rattle.build.specs.Counts.{add_counts}
-use Rattle.build.specs.declared.counts.CountsAdded.{CountsAdded}
+use Rattle.build.specs.declared.counts.Added.{Added}
 use Rattle.text.specs.Text.{lf, past, Written}
-use Rattle.map_text.specs.declared.read.SettingsLine.{SettingsLine}
+use Rattle.map_text.specs.declared.read.Settings.{Settings}
 use Rattle.map_text.specs.Lines.{first_settings, Cells, cells, entries_text, end_text, refused_text}
-use Rattle.mombuild.specs.declared.Input.{Input}
-use Rattle.mombuild.specs.declared.Step.{Step}
+use Rattle.mombuild.specs.declared.FailedRead.{FailedRead}
 
 -- what is read of a text: all of its numbers, or "the line (from 1)" that is the first unreadable one
 pub data Reading : Type 0 where
@@ -17,12 +18,12 @@ pub data Reading : Type 0 where
   readable : (D M T : ℕ) (hashes counts : List ℕ) → Reading
 
 abbrev pub reading_of_cells : ℕ → ℕ → ℕ → List ℕ → List ℕ → Option ℕ → Reading
-reading_of_cells D M T hs ns (some line) = unreadable line
-reading_of_cells D M T hs ns none = readable D M T hs ns
+reading_of_cells D M T hs ns (Some line) = unreadable line
+reading_of_cells D M T hs ns None = readable D M T hs ns
 
-abbrev pub reading_of : SettingsLine → Cells → Reading
-reading_of (SettingsLine.Settings D M T) c = reading_of_cells D M T c.hashes c.counts c.unreadable
-reading_of SettingsLine.Unreadable c = unreadable 1
+abbrev pub reading_of : Option Settings → Cells → Reading
+reading_of (Some s) c = reading_of_cells s.depth s.depth_threshold s.thousandths c.hashes c.counts c.unreadable
+reading_of None c = unreadable 1
 
 -- "a line `D,M,T` [..], then at most 2,048 lines `hash,count`"; "an empty input (line 1) is unreadable", since no LF ends its line 1
 unfoldable pub reading : List ℕ → Reading
@@ -38,9 +39,9 @@ unfoldable pub places : List ℕ
 places = replicate 2048 0
 
 -- what is printed of an add call's answer and the two buffers afterwards
-abbrev pub answer_text : CountsAdded → List ℕ → List ℕ → List ℕ
-answer_text (CountsAdded.Refused r) zs ns = refused_text (number_of r) (place_of r)
-answer_text (CountsAdded.Added entries total) zs ns = entries_text (take entries zs) (take entries ns) ++ end_text entries total
+abbrev pub answer_text : Result Added Refusal → List ℕ → List ℕ → List ℕ
+answer_text (Err r) zs ns = refused_text (number_of r) (place_of r)
+answer_text (Ok a) zs ns = entries_text (take a.entries zs) (take a.entries ns) ++ end_text a.entries a.total
 
 -- of the map of all cells, nothing being held and no parent protected
 unfoldable pub map_text : ℕ → ℕ → Float → List ℕ → List ℕ → List ℕ
@@ -71,27 +72,31 @@ broken_line l (readable D M T hs ns) = occurrences lf l + 1
 unfoldable pub broken_off : List ℕ → List ℕ
 broken_off l = refused_text 0 (broken_line l (reading l))
 
+-- what could be read of an input: so many bytes to its end or until the buffer was full, or so many until a read failed
+abbrev pub Input : Type 0
+Input = Result ℕ FailedRead
+
 -- what a read behind n bytes comes to, by its answer: how many bytes it put at the start, 0 at the end of the input, an error where it failed
-abbrev pub step_of : {E : Type 0} → Result ℕ E → ℕ → Step
-step_of (Err e) n = Step.Done (Input.Failed n)
-step_of (Ok zero) n = Step.Done (Input.Read n)
-step_of (Ok (suc k)) n = Step.More (suc k)
+abbrev pub step_of : {E : Type 0} → Result ℕ E → ℕ → ControlFlow Input ℕ
+step_of (Err e) n = Break (Err (record { behind = n }))
+step_of (Ok zero) n = Break (Ok n)
+step_of (Ok (suc k)) n = Continue (suc k)
 
 -- ---- the buffers
 -- how many bytes were read
 abbrev pub bytes_of : Input → ℕ
-bytes_of (Input.Read n) = n
-bytes_of (Input.Failed n) = n
+bytes_of (Ok n) = n
+bytes_of (Err failed) = failed.behind
 
 -- What stands in a buffer once an input is read into it: the input's first bytes, as many as the buffer has places, and so all of it where a
 -- place is left; where a read failed behind so many, those.
 abbrev pub HoldsInput : Input → (buffer whole : List ℕ) → Type 0
-HoldsInput (Input.Read n) buffer whole = take n buffer ≡ take (length buffer) whole
-HoldsInput (Input.Failed n) buffer whole = take n buffer ≡ take n whole
+HoldsInput (Ok n) buffer whole = take n buffer ≡ take (length buffer) whole
+HoldsInput (Err failed) buffer whole = take failed.behind buffer ≡ take failed.behind whole
 
 -- What is written for an input of which so many bytes stand in the program's buffer: what the whole input asks for, whatever it is. The bytes
 -- are its first ones, as many as the buffer has places, and so all of it where a place is left.
 abbrev pub PrintedFor : Input → (buffer before after : List ℕ) → ℕ → Type 0
-PrintedFor (Input.Read n) buffer before after end =
+PrintedFor (Ok n) buffer before after end =
     (whole : List ℕ) → take n buffer ≡ take (length buffer) whole → Written before 0 (mombuild whole) after end
-PrintedFor (Input.Failed n) buffer before after end = Written before 0 (broken_off (take n buffer)) after end
+PrintedFor (Err failed) buffer before after end = Written before 0 (broken_off (take failed.behind buffer)) after end

@@ -16,21 +16,24 @@
 // end of the text. A write that fails ends the program with that error.
 //
 // The work is done by `print_input`, on the program's buffers; `main` only reads, calls it and writes.
+// The buffers are arrays, since a program that asks for memory can be refused it.
 #![tactic(auto)]
 
 ghost use Rattle.std.specs.Prelude.{◌≡◌, ◌≤◌, length, IfSome};
 ghost use Rattle.io.specs.Counts.{IsPrefixLen};
 ghost use Rattle.text.specs.Text.{Written};
-ghost use Rattle.mombuild.specs.Mombuild.{mombuild as mombuild_of, broken_off, map_text, answer_text, bytes_of, step_of, HoldsInput, PrintedFor};
+ghost use Rattle.mombuild.specs.Mombuild.{mombuild as mombuild_of, broken_off, map_text, thousandths, answer_text, bytes_of, step_of, HoldsInput, PrintedFor};
 ghost use Rattle.mombuild.specs.Steps.{TextIs};
 
-use build::counts::CountsAdded;
+use build::counts::Added;
 use build_counts::add_counts;
 use map_text::print::{MAX_OUTPUT, print_map, print_refused};
-use map_text::read::{CellLines, MAX_CELLS, SettingsLine, read_cells, read_settings};
+use map_text::read::{MAX_CELLS, Settings, UnreadableLine, read_cells, read_settings};
+use refusal::Refusal;
 use std::io;
 use std::io::Read;
-use text::{LF, find};
+use std::ops::ControlFlow;
+use text::{LF, split_once};
 
 // The number that is printed for an unreadable text.
 const UNREADABLE: u64 = 0;
@@ -41,29 +44,18 @@ const MAX_INPUT: usize = 63 + 42 * MAX_CELLS + 1;
 
 // What could be read of the input: it ends behind so many bytes, or goes on where they fill the
 // buffer; or a read failed behind so many.
+type Input = Result<usize, FailedRead>;
+
 #[derive(Clone, Copy)]
-enum Input {
-    Read(usize),
-    Failed(usize),
+struct FailedRead {
+    behind: usize,
 }
 
-// What one read comes to: so many bytes more, or the end of reading.
+// The numbers of a text, its cells standing in two buffers.
 #[derive(Clone, Copy)]
-enum Step {
-    More(usize),
-    Done(Input),
-}
-
-// The numbers of a text, its cells standing in two buffers, or its first unreadable line.
-#[derive(Clone, Copy)]
-enum Text {
-    Readable {
-        depth: u8,
-        depth_threshold: u8,
-        thousandths: u32,
-        cells: usize,
-    },
-    Unreadable(usize),
+struct ReadableText {
+    settings: Settings,
+    cells: usize,
 }
 
 fn main(rt: HostRuntime) -> io::Result<()> {
@@ -74,7 +66,8 @@ fn main(rt: HostRuntime) -> io::Result<()> {
     rt.write_all(&output[..end])
 }
 
-// Reads until the buffer is full, the input ends or a read fails.
+// Reads until the buffer is full, the input ends or a read fails. (std's `read_to_end` asks for
+// memory, and says nothing of the bytes before a read that fails.)
 fn read_input<R: Read>(reader: &mut R, buffer: &mut [u8]) -> Input
     ensures within { bytes_of result ≤ length buffer.new }
     ensures first_bytes { IfSome (R.remaining reader.old) (HoldsInput result buffer.new) }
@@ -83,24 +76,22 @@ fn read_input<R: Read>(reader: &mut R, buffer: &mut [u8]) -> Input
     while n < buffer.len() {
         let answer = reader.read(&mut buffer[n..]);
         match step_of(answer, n) {
-            Step::Done(input) => return input,
-            Step::More(bytes) => n += bytes,
+            ControlFlow::Break(input) => return input,
+            ControlFlow::Continue(bytes) => n += bytes,
         }
     }
-    Input::Read(n)
+    Ok(n)
 }
 
-// What a read behind n bytes answered: an error where it failed, 0 at the end.
-fn step_of(answer: io::Result<usize>, n: usize) -> Step
+// What a read behind n bytes comes to: so many bytes more, or the end of reading.
+fn step_of(answer: io::Result<usize>, n: usize) -> ControlFlow<Result<usize, FailedRead>, usize>
     ensures { result ≡ step_of answer n }
 {
-    let Ok(bytes) = answer else {
-        return Step::Done(Input::Failed(n));
-    };
-    if bytes == 0 {
-        return Step::Done(Input::Read(n));
+    match answer {
+        Err(_) => ControlFlow::Break(Err(FailedRead { behind: n })),
+        Ok(0) => ControlFlow::Break(Ok(n)),
+        Ok(bytes) => ControlFlow::Continue(bytes),
     }
-    Step::More(bytes)
 }
 
 // Writes what is printed for an input to the front of a buffer; answers its length.
@@ -109,10 +100,9 @@ fn print_input(buffer: &[u8; MAX_INPUT], input: Input, output: &mut [u8; MAX_OUT
     ensures printed_for { PrintedFor input buffer.now output.old output.new result }
     ensures prefix_len { IsPrefixLen result output.new }
 {
-    let bytes: &[u8] = buffer;
     match input {
-        Input::Read(n) => mombuild(&bytes[..n], output),
-        Input::Failed(n) => print_broken_off(&bytes[..n], output),
+        Ok(n) => mombuild(&buffer[..n], output),
+        Err(failed) => print_broken_off(&buffer[..failed.behind], output),
     }
 }
 
@@ -123,19 +113,12 @@ fn mombuild(text: &[u8], output: &mut [u8; MAX_OUTPUT]) -> usize
     let mut hashes = [0u64; MAX_CELLS];
     let mut counts = [0u32; MAX_CELLS];
     match read_text(text, &mut hashes, &mut counts) {
-        Text::Unreadable(line) => print_refused(output, UNREADABLE, line as u64),
-        Text::Readable {
-            depth,
-            depth_threshold,
-            thousandths,
-            cells,
-        } => print_built(
+        Err(unreadable) => print_refused(output, UNREADABLE, unreadable.line as u64),
+        Ok(read) => print_built(
             output,
-            depth,
-            depth_threshold,
-            thousandths as f64 / 1000.0,
-            &hashes[..cells],
-            &counts[..cells],
+            read.settings,
+            &hashes[..read.cells],
+            &counts[..read.cells],
         ),
     }
 }
@@ -147,62 +130,43 @@ fn print_broken_off(text: &[u8], output: &mut [u8; MAX_OUTPUT]) -> usize
     let mut hashes = [0u64; MAX_CELLS];
     let mut counts = [0u32; MAX_CELLS];
     match read_text(text, &mut hashes, &mut counts) {
-        Text::Unreadable(line) => print_refused(output, UNREADABLE, line as u64),
+        Err(unreadable) => print_refused(output, UNREADABLE, unreadable.line as u64),
         // The line behind the settings and the cells.
-        Text::Readable {
-            depth: _,
-            depth_threshold: _,
-            thousandths: _,
-            cells,
-        } => print_refused(output, UNREADABLE, cells as u64 + 2),
+        Ok(read) => print_refused(output, UNREADABLE, read.cells as u64 + 2),
     }
 }
 
 // Reads all lines of a text.
-fn read_text(text: &[u8], hashes: &mut [u64; MAX_CELLS], counts: &mut [u32; MAX_CELLS]) -> Text
+fn read_text(
+    text: &[u8],
+    hashes: &mut [u64; MAX_CELLS],
+    counts: &mut [u32; MAX_CELLS],
+) -> Result<ReadableText, UnreadableLine>
     ensures { TextIs text.now result hashes.new counts.new }
 {
-    let end = find(text, LF);
-    if end == text.len() {
-        return Text::Unreadable(1);
-    }
-    let SettingsLine::Settings {
-        depth,
-        depth_threshold,
-        thousandths,
-    } = read_settings(&text[..end])
-    else {
-        return Text::Unreadable(1);
-    };
-    match read_cells(&text[end + 1..], hashes, counts) {
-        CellLines::Unreadable(line) => Text::Unreadable(line),
-        CellLines::Cells(cells) => Text::Readable {
-            depth,
-            depth_threshold,
-            thousandths,
-            cells,
-        },
-    }
+    let first = UnreadableLine { line: 1 };
+    let (line, rest) = split_once(text, LF).ok_or(first)?;
+    let settings = read_settings(line).ok_or(first)?;
+    let cells = read_cells(rest, hashes, counts)?;
+    Ok(ReadableText { settings, cells })
 }
 
 // Builds the map and writes it, or why it is refused.
 fn print_built(
     output: &mut [u8; MAX_OUTPUT],
-    depth: u8,
-    depth_threshold: u8,
-    chi2_threshold: f64,
+    settings: Settings,
     hashes: &[u64],
     counts: &[u32],
 ) -> usize
-    ensures { Written output.old 0 (map_text depth depth_threshold chi2_threshold hashes.now counts.now) output.new result }
+    ensures { Written output.old 0 (map_text settings.depth settings.depth_threshold (thousandths settings.thousandths) hashes.now counts.now) output.new result }
 {
     let mut map_zuniqs = [0u64; MAX_CELLS];
     let mut map_counts = [0u32; MAX_CELLS];
     // A text names no protected parents, so the list of them is empty.
     let added = add_counts(
-        depth,
-        depth_threshold,
-        chi2_threshold,
+        settings.depth,
+        settings.depth_threshold,
+        f64::from(settings.thousandths) / 1000.0,
         &[],
         0,
         &mut map_zuniqs,
@@ -216,24 +180,14 @@ fn print_built(
 // Writes what an add call answered, with the map that it left.
 fn print_answer(
     output: &mut [u8; MAX_OUTPUT],
-    added: CountsAdded,
+    added: Result<Added, Refusal>,
     zuniqs: &[u64; MAX_CELLS],
     counts: &[u32; MAX_CELLS],
 ) -> usize
     ensures { Written output.old 0 (answer_text added zuniqs.now counts.now) output.new result }
 {
     match added {
-        CountsAdded::Refused(refusal) => print_refused(
-            output,
-            refusal.number() as u64,
-            refusal.place() as u64,
-        ),
-        CountsAdded::Added { entries, total } => print_map(
-            output,
-            zuniqs,
-            counts,
-            entries,
-            total as u64,
-        ),
+        Err(refusal) => print_refused(output, u64::from(refusal.number()), refusal.place() as u64),
+        Ok(map) => print_map(output, zuniqs, counts, map.entries, u64::from(map.total)),
     }
 }

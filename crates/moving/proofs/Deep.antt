@@ -4,7 +4,7 @@ use mathlib.Core.Path.{◌≡◌, refl, ap, sym, ◌∙◌}
 use mathlib.Core.Bool.{Bool, true, false, true≢false}
 use mathlib.Core.Logic.{◌↔◌}
 use mathlib.Core.List.{List, [], ◌∷◌}
-use mathlib.Core.Option.{none, some}
+use mathlib.Core.Option.{Option, none, some}
 use Prim.Native.Nat.{ℕ, zero, suc, ◌+◌, ◌≤◌, ◌<◌, min}
 use native.Mathlib.Numerals.{add-one}
 use native.Mathlib.Omega.{arith}
@@ -18,7 +18,9 @@ use Rattle.zuniq.proofs.Codec.{cell, decodes}
 use Rattle.mom.specs.Map.{first_fault, ValidMap}
 use Rattle.mom.proofs.Faults.{no_fault_iff_valid}
 use Rattle.mom.proofs.Valid.{valid_deeper}
-use Rattle.refusal.specs.Checks.{or_else, refused_if}
+use Rattle.std.specs.Prelude.{Result, ⊤}
+use Rattle.std.specs.Result.{is_ok}
+use Rattle.refusal.specs.Checks.{or_else, refused_if, check_of}
 use Rattle.build.specs.Add.{map_refusal}
 use Rattle.refusal.proofs.Checks.{or_else_none, refused_if-none}
 use Rattle.build.proofs.Checking.{map_passes}
@@ -115,3 +117,8 @@ module _ (K L : ℕ) where
         rw (map_not_refused K D zs (valid_deeper v (omega arith)))
         (deep_none 0 zs (λ j d h l w. omega (arith, v.shallow j d h l w))),
   )
+
+-- A check that is passed refuses nothing.
+pub none_of_is_ok : (o : Option Refusal) {r : Result ⊤ Refusal} → r ≡ check_of o → is_ok r ≡ true → o ≡ none
+none_of_is_ok none e t = refl
+none_of_is_ok (some q) e t = absurd (true≢false (sym t ∙ ap is_ok e))

@@ -1,4 +1,5 @@
 -- What is shown of moving, call by call: there and back between 29 and 13, and when number 13 is given. Assumes nothing.
+use Rattle.std.specs.Prelude.{Option as Answer, None, Some}
 use mathlib.Core.Path.{◌≡◌, refl, ap, ◌∙◌}
 use mathlib.Core.Bool.{Bool, true, false, ◌||◌, not}
 use mathlib.Core.Logic.{◌↔◌}
@@ -19,32 +20,32 @@ use Rattle.build.specs.Buffers.{held}
 use Rattle.build.specs.Add.{lengths_refusal, map_refusal, space_refusal}
 use Rattle.refusal.proofs.Checks.{refused_if-none}
 use Rattle.build.proofs.Checking.{lengths_pass, map_passes}
-use Rattle.moving.specs.declared.Moved.{Moved}
-use Rattle.moving.specs.Moving.{deep_refusal, entries_refusal, moving_refusal, moved_or, moved, Acceptable, DeepAt, FirstDeep}
+use Rattle.std.specs.Prelude.{Ok, Err}
+use Rattle.moving.specs.Moving.{moved_map, deep_refusal, entries_refusal, moving_refusal, moved_or, moved, Acceptable, DeepAt, FirstDeep}
 use Rattle.moving.proofs.Deep.{deep_first, deep_passes, map_not_refused}
 use Rattle.moving.proofs.Moving.{movable, accepted, moves}
 
 -- ---- there and back
 -- A map moved to a larger largest depth keeps its own depth.
-pub depth_kept : (K L D : ℕ) (zs vs ozs ovs : List ℕ) (d n : ℕ) (xs ws : List ℕ) → K ≤ L → moved K L D zs vs ozs ovs ≡ (Moved.Map d n, xs, ws) → d ≡ D
+pub depth_kept : (K L D : ℕ) (zs vs ozs ovs : List ℕ) (d n : ℕ) (xs ws : List ℕ) → K ≤ L → moved K L D zs vs ozs ovs ≡ (Ok (moved_map d n), xs, ws) → d ≡ D
 depth_kept K L D zs vs ozs ovs d n xs ws u e =
     let m = movable K L D zs (length vs) (length ozs) (length ovs) (accepted K L D zs vs ozs ovs d n xs ws e) in
     omega (arith, m.shallow, (moves K L D zs vs ozs ovs d n xs ws e).depth)
 
 module _ (D : ℕ) (zs vs ozs ovs : List ℕ) (d n : ℕ) (xs ws pzs pvs : List ℕ) (outputs : length pzs ≡ length pvs) (room : n ≤ length pzs) where
   -- "Narrowing and widening again gives the same entries."
-  pub narrow_widen : moved 29 13 D zs vs ozs ovs ≡ (Moved.Map d n, xs, ws)
-      → moved 13 29 d (take n xs) (take n ws) pzs pvs ≡ (Moved.Map d n, zs ++ replicate (length pzs - n) 0, vs ++ replicate (length pvs - n) 0)
+  pub narrow_widen : moved 29 13 D zs vs ozs ovs ≡ (Ok (moved_map d n), xs, ws)
+      → moved 13 29 d (take n xs) (take n ws) pzs pvs ≡ (Ok (moved_map d n), zs ++ replicate (length pzs - n) 0, vs ++ replicate (length pvs - n) 0)
   narrow_widen e = (moves 29 13 D zs vs ozs ovs d n xs ws e).back pzs pvs outputs room
 
   -- Widening and narrowing again gives the same entries, and the same depth.
-  pub widen_narrow : moved 13 29 D zs vs ozs ovs ≡ (Moved.Map d n, xs, ws)
-      → moved 29 13 D (take n xs) (take n ws) pzs pvs ≡ (Moved.Map D n, zs ++ replicate (length pzs - n) 0, vs ++ replicate (length pvs - n) 0)
+  pub widen_narrow : moved 13 29 D zs vs ozs ovs ≡ (Ok (moved_map d n), xs, ws)
+      → moved 29 13 D (take n xs) (take n ws) pzs pvs ≡ (Ok (moved_map D n), zs ++ replicate (length pzs - n) 0, vs ++ replicate (length pvs - n) 0)
   widen_narrow e = rw (depth_kept 13 29 D zs vs ozs ovs d n xs ws (omega arith) e) at ((moves 13 29 D zs vs ozs ovs d n xs ws e).back pzs pvs outputs room)
 
 -- ---- number 13
 -- Only a refusal is answered as one.
-refused : (o : Option Refusal) (L d : ℕ) (s : List (Entry ℕ)) (ozs ovs : List ℕ) (r : Refusal) → (moved_or o L d s ozs ovs).0 ≡ Moved.Refused r → o ≡ some r
+refused : (o : Option Refusal) (L d : ℕ) (s : List (Entry ℕ)) (ozs ovs : List ℕ) (r : Refusal) → (moved_or o L d s ozs ovs).0 ≡ Err r → o ≡ some r
 unfolding moved_or
 refused none L d s ozs ovs r e = let z : ◌≡◌ {A = ℕ} 0 1 = cc in absurd (omega arith)
 refused (some q) L d s ozs ovs r e = cc
@@ -72,10 +73,10 @@ space_another : (places n i : ℕ) → space_refusal places 0 n ≡ some (Refusa
 unfolding space_refusal
 space_another places n i = another (ltb places (0 + n)) Refusal.NoSpace i (λ q. let z : ◌≡◌ {A = ℕ} 0 1 = cc in omega arith)
 
-map_another : (f : FirstFault) (i : ℕ) → map_refusal f ≡ some (Refusal.EntryTooDeep i) → ⊥
+map_another : (f : Answer FirstFault) (i : ℕ) → map_refusal f ≡ some (Refusal.EntryTooDeep i) → ⊥
 unfolding map_refusal
-map_another FirstFault.Nothing i e = let z : ◌≡◌ {A = ℕ} 0 1 = cc in omega arith
-map_another (FirstFault.At place fault) i e = let z : ◌≡◌ {A = ℕ} 0 1 = cc in omega arith
+map_another None i e = let z : ◌≡◌ {A = ℕ} 0 1 = cc in omega arith
+map_another (Some f) i e = let z : ◌≡◌ {A = ℕ} 0 1 = cc in omega arith
 
 -- Where some entry is too deep, row 13 tells the first such.
 deep_given : (K L : ℕ) (zs : List ℕ) (j : ℕ) → DeepAt K L zs j → (i : ℕ) × (deep_refusal K L 0 zs ≡ some (Refusal.EntryTooDeep i)) × FirstDeep K L zs i
@@ -117,12 +118,12 @@ module _ (K L D : ℕ) (zs vs ozs ovs : List ℕ) where
       let l = lengths_pass 0 (length zs) (length vs) (length ozs) (length ovs) b.0 in
       (record { shallow = ltb-false K D (refused_if-none _ _ a.0); paired = l.0; outputs = l.2; valid = map_passes K D zs d.0 }, d.1)
 
-  deep_answered : (i : ℕ) → Acceptable K D zs vs ozs ovs → deep_refusal K L 0 zs ≡ some (Refusal.EntryTooDeep i) → (moved K L D zs vs ozs ovs).0 ≡ Moved.Refused (Refusal.EntryTooDeep i)
+  deep_answered : (i : ℕ) → Acceptable K D zs vs ozs ovs → deep_refusal K L 0 zs ≡ some (Refusal.EntryTooDeep i) → (moved K L D zs vs ozs ovs).0 ≡ Err (Refusal.EntryTooDeep i)
   unfolding moved moved_or
   deep_answered i a e = rw (deep_tried a, e) refl
 
   -- Moving is refused by 13 exactly where rows 1, 4 and 5 don't apply and some entry is deeper than L, with the first such place.
-  pub too_deep_iff : (i : ℕ) → ((moved K L D zs vs ozs ovs).0 ≡ Moved.Refused (Refusal.EntryTooDeep i)) ↔ (Acceptable K D zs vs ozs ovs × FirstDeep K L zs i)
+  pub too_deep_iff : (i : ℕ) → ((moved K L D zs vs ozs ovs).0 ≡ Err (Refusal.EntryTooDeep i)) ↔ (Acceptable K D zs vs ozs ovs × FirstDeep K L zs i)
   unfolding moved
   too_deep_iff i = (
     λ e.
@@ -138,5 +139,5 @@ module _ (K L D : ℕ) (zs vs ozs ovs : List ℕ) where
   )
 
   -- Every map with an entry deeper than L to which rows 1, 4 and 5 don't apply is so refused.
-  pub deep_refused : (j : ℕ) → Acceptable K D zs vs ozs ovs → DeepAt K L zs j → (i : ℕ) × (i ≤ j) × ((moved K L D zs vs ozs ovs).0 ≡ Moved.Refused (Refusal.EntryTooDeep i))
+  pub deep_refused : (j : ℕ) → Acceptable K D zs vs ozs ovs → DeepAt K L zs j → (i : ℕ) × (i ≤ j) × ((moved K L D zs vs ozs ovs).0 ≡ Err (Refusal.EntryTooDeep i))
   deep_refused j a p = let x = deep_given K L zs j p in (x.0, x.2.first j p, deep_answered x.0 a x.1)

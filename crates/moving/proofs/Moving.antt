@@ -2,25 +2,24 @@
 use mathlib.Core.Path.{◌≡◌, refl, ap, ap₂, sym, ◌∙◌}
 use mathlib.Core.List.{List, [], ◌++◌, map, append-nil}
 use mathlib.Core.Option.{Option, none, some}
-use Prim.Native.Nat.{ℕ, ◌+◌, ◌-◌, ◌≤◌, min}
+use Prim.Native.Nat.{ℕ, ◌+◌, ◌-◌, ◌≤◌, ◌<◌, min}
 use native.Mathlib.Omega.{arith}
-use lib.ListN.{length, take, replicate}
+use lib.ListN.{length, get_or, take, replicate}
 use borrow.Author.Tests.{ltb-false, le-ltb, eq-eqb}
 use Rattle.refusal.specs.declared.Refusal.{Refusal}
-use Rattle.zuniq.specs.Codec.{zuniq}
 use Rattle.mom.specs.Map.{ValidMap}
 use Rattle.build.specs.Map.{Entry}
 use Rattle.build.specs.Buffers.{held, laid, filled, zuniq_of, value_of, zuniq_buffer, value_buffer}
-use Rattle.refusal.specs.Checks.{check_of}
-use Rattle.refusal.proofs.Checks.{check_refused, or_else_none, refused_if-none}
+use Rattle.refusal.proofs.Checks.{or_else_none, refused_if-none}
 use Rattle.build.specs.Add.{lengths_refusal, space_refusal}
-use Rattle.refusal.specs.declared.Check.{Check}
 use Rattle.build.proofs.Checking.{lengths_pass, space_passes}
 use Rattle.build.proofs.Buffers.{length-laid, take-filled}
 use Rattle.moving.specs.declared.Moved.{Moved}
-use Rattle.moving.specs.Moving.{entries_refusal, moving_refusal, moved_or, moved, Moves}
+use Rattle.std.specs.Prelude.{Result, Ok, Err}
+use Rattle.moving.specs.Moving.{moved_map, entries_refusal, moving_refusal, moved_or, moved, Moves}
+use Rattle.moving.specs.Widths.{in_width, MovesTo}
 use Rattle.moving.proofs.Deep.{entries_pass_iff}
-use Rattle.moving.proofs.Widths.{entries_number, entries_zuniqs, entries_counts, entries_changed, entries_valid, entries_again}
+use Rattle.moving.proofs.Widths.{entries_number, entries_zuniqs, entries_counts, entries_changed, entries_valid, entries_again, width_changes, moves_to}
 
 -- A map that is not refused.
 pub record Movable (K L D : ℕ) (zs : List ℕ) (counts places values : ℕ) : Type 0 where
@@ -59,44 +58,46 @@ not_refused K L D zs counts places values m =
       le-ltb places (0 + length zs) (omega (arith, m.room)),
     ) refl
 
--- A call that its check refuses answers the refusal, and the output stays.
-pub moved-refused : {x : Check} {r : Refusal} (K L D : ℕ) (zs vs ozs ovs : List ℕ) → x ≡ check_of (moving_refusal K L D zs (length vs) (length ozs) (length ovs)) → x ≡ Check.Refused r
-    → (Moved.Refused r, ozs, ovs) ≡ moved K L D zs vs ozs ovs
+-- A call that is refused answers the refusal, and the output stays.
+pub moved-refused : {r : Refusal} (K L D : ℕ) (zs vs ozs ovs : List ℕ) → moving_refusal K L D zs (length vs) (length ozs) (length ovs) ≡ some r → (Err r, ozs, ovs) ≡ moved K L D zs vs ozs ovs
 unfolding moved moved_or
-moved-refused {r = r} K L D zs vs ozs ovs e k = rw (check_refused (moving_refusal K L D zs (length vs) (length ozs) (length ovs)) r (sym k ∙ e)) refl
+moved-refused K L D zs vs ozs ovs e = rw e refl
 
--- The call's definition, by what is written: f changes the zuniqs of all cells up to the answered depth into those with the largest
--- depth L.
+-- The zuniqs of such a map move to the other width.
+pub each_moves : (K L D : ℕ) (zs : List ℕ) (counts places values : ℕ) → Movable K L D zs counts places values → (i : ℕ) → i < length zs → MovesTo K L (get_or zs i 0)
+each_moves K L D zs counts places values m i l =
+    let w = m.valid.valid i l in
+    moves_to K L (get_or zs i 0) w.0 w.1 w.2 (omega (arith, m.valid.shallow i w.0 w.1 l w.2))
+
+-- The call's definition, by what is written.
 pub moved_by : (K L D : ℕ) (zs vs ozs ovs : List ℕ) → moving_refusal K L D zs (length vs) (length ozs) (length ovs) ≡ none
-    → (f : ℕ → ℕ) → ((d h : ℕ) → d ≤ min D L → f (zuniq K d h) ≡ zuniq L d h) → (ozs₁ ovs₁ ozs₂ ovs₂ : List ℕ)
-    → length ozs₁ ≡ length ozs → length ovs₁ ≡ length ovs → take (length zs) ozs₁ ≡ map f zs → take (length vs) ovs₁ ≡ vs
-    → ozs₂ ≡ take (length zs) ozs₁ ++ replicate (length ozs₁ - length zs) 0 → ovs₂ ≡ take (length zs) ovs₁ ++ replicate (length ovs₁ - length zs) 0
-    → (d : ℕ) → d ≡ min D L → (Moved.Map d (length zs), ozs₂, ovs₂) ≡ moved K L D zs vs ozs ovs
+    → (ozs' ovs' : List ℕ) → ozs' ≡ map (in_width K L) zs ++ replicate (length ozs - length zs) 0 → ovs' ≡ vs ++ replicate (length ovs - length zs) 0
+    → (d : ℕ) → d ≡ min D L → (Ok (moved_map d (length zs)), ozs', ovs') ≡ moved K L D zs vs ozs ovs
 unfolding moved moved_or filled
-moved_by K L D zs vs ozs ovs e f same ozs₁ ovs₁ ozs₂ ovs₂ lz lv tz tv ez ev d ed =
+moved_by K L D zs vs ozs ovs e ozs' ovs' ez ev d ed =
     let m = movable K L D zs (length vs) (length ozs) (length ovs) e in
     let n = entries_number K (min D L) zs vs m.paired m.valid in
-    let z = entries_changed K (min D L) zs vs m.paired m.valid L f same in
+    let z = entries_changed K (min D L) zs vs m.paired m.valid L (in_width K L) (λ d h l. width_changes K L d h (omega (arith, m.shallow)) (omega arith)) in
     let v = entries_counts K (min D L) zs vs m.paired m.valid in
-    let uv : take (length zs) ovs₁ ≡ vs = rw (← m.paired) at tv in
-    rw (e, ed, n, v, ez, ev, tz, uv, lz, lv, z) refl
+    rw (e, ed, n, v, ez, ev, z) refl
 
 -- What a call that answers leaves is what the definition gives without a refusal,
-answered : (o : Option Refusal) (L m : ℕ) (s : List (Entry ℕ)) (ozs ovs : List ℕ) (d n : ℕ) (xs ws : List ℕ) → moved_or o L m s ozs ovs ≡ (Moved.Map d n, xs, ws)
+answered : (o : Option Refusal) (L m : ℕ) (s : List (Entry ℕ)) (ozs ovs : List ℕ) (d n : ℕ) (xs ws : List ℕ) → moved_or o L m s ozs ovs ≡ (Ok (moved_map d n), xs, ws)
     → (o ≡ none) × (d ≡ m) × (n ≡ length s) × (xs ≡ zuniq_buffer L (length ozs) s) × (ws ≡ value_buffer 0 (length ovs) s)
 unfolding moved_or
 answered (some r) L m s ozs ovs d n xs ws e =
-    let a : Moved.Refused r ≡ Moved.Map d n = ap (λ (t : Moved × List ℕ × List ℕ). t.0) e in
+    let a : Err r ≡ Ok (moved_map d n) = ap (λ (t : Result Moved Refusal × List ℕ × List ℕ). t.0) e in
     let z : ◌≡◌ {A = ℕ} 0 1 = cc in
     absurd (omega arith)
 answered none L m s ozs ovs d n xs ws e =
-    let a : Moved.Map m (length s) ≡ Moved.Map d n = ap (λ (t : Moved × List ℕ × List ℕ). t.0) e in
-    let b : d ≡ m = cc in
-    let c : n ≡ length s = cc in
-    (refl, b, c, sym (ap (λ (t : Moved × List ℕ × List ℕ). t.1) e), sym (ap (λ (t : Moved × List ℕ × List ℕ). t.2) e))
+    let a : ◌≡◌ {A = Result Moved Refusal} (Ok (moved_map m (length s))) (Ok (moved_map d n)) = ap (λ (t : Result Moved Refusal × List ℕ × List ℕ). t.0) e in
+    let same : moved_map m (length s) ≡ moved_map d n = cc in
+    let b : d ≡ m = sym (ap (λ (x : Moved). x.depth) same) in
+    let c : n ≡ length s = sym (ap (λ (x : Moved). x.entries) same) in
+    (refl, b, c, sym (ap (λ (t : Result Moved Refusal × List ℕ × List ℕ). t.1) e), sym (ap (λ (t : Result Moved Refusal × List ℕ × List ℕ). t.2) e))
 
 -- and so it is not refused.
-pub accepted : (K L D : ℕ) (zs vs ozs ovs : List ℕ) (d n : ℕ) (xs ws : List ℕ) → moved K L D zs vs ozs ovs ≡ (Moved.Map d n, xs, ws)
+pub accepted : (K L D : ℕ) (zs vs ozs ovs : List ℕ) (d n : ℕ) (xs ws : List ℕ) → moved K L D zs vs ozs ovs ≡ (Ok (moved_map d n), xs, ws)
     → moving_refusal K L D zs (length vs) (length ozs) (length ovs) ≡ none
 unfolding moved
 accepted K L D zs vs ozs ovs d n xs ws e = (answered (moving_refusal K L D zs (length vs) (length ozs) (length ovs)) L (min D L) (held K (length zs) zs vs) ozs ovs d n xs ws e).0
@@ -109,7 +110,7 @@ module _ (K L D : ℕ) (zs vs : List ℕ) (v : ValidMap K (min D L) zs) (paired 
   -- The entries, laid with the largest depth L, are moved back.
   entries_back : (ozs ovs : List ℕ) → length ozs ≡ length ovs → length zs ≤ length ozs
       → moved L K (min D L) (laid (zuniq_of L) s) (laid value_of s) ozs ovs
-      ≡ (Moved.Map (min D L) (length zs), zs ++ replicate (length ozs - length zs) 0, vs ++ replicate (length ovs - length zs) 0)
+      ≡ (Ok (moved_map (min D L) (length zs)), zs ++ replicate (length ozs - length zs) 0, vs ++ replicate (length ovs - length zs) 0)
   unfolding moved moved_or filled
   entries_back ozs ovs p q =
       let n = entries_number K (min D L) zs vs paired v in
@@ -138,7 +139,7 @@ module _ (K L D : ℕ) (zs vs : List ℕ) (v : ValidMap K (min D L) zs) (paired 
       ) refl
 
 -- Every call that answers moves the map.
-pub moves : (K L D : ℕ) (zs vs ozs ovs : List ℕ) (d n : ℕ) (xs ws : List ℕ) → moved K L D zs vs ozs ovs ≡ (Moved.Map d n, xs, ws) → Moves K L D zs vs d n xs ws
+pub moves : (K L D : ℕ) (zs vs ozs ovs : List ℕ) (d n : ℕ) (xs ws : List ℕ) → moved K L D zs vs ozs ovs ≡ (Ok (moved_map d n), xs, ws) → Moves K L D zs vs d n xs ws
 unfolding moved filled
 moves K L D zs vs ozs ovs d n xs ws e =
     let s = held K (length zs) zs vs in

@@ -3,18 +3,23 @@
 use mathlib.Core.Path.{◌≡◌, refl, ap, ap₂, sym, ◌∙◌}
 use mathlib.Core.List.{List, [], ◌∷◌, ◌++◌, map, reverse}
 use mathlib.Core.Logic.{inl, inr, ⊎_elim}
-use Prim.Native.Nat.{ℕ, ◌+◌, ◌*◌, ◌/◌, ◌-◌, ◌^◌, ◌≤◌}
-use native.Mathlib.Nat.{mul_assoc}
+use Prim.Native.Nat.{ℕ, ◌+◌, ◌*◌, ◌/◌, ◌%◌, ◌-◌, ◌^◌, ◌≤◌, ◌<◌}
+use native.Mathlib.Decide.{dec_le}
+use mathlib.Core.Bool.{cond}
+use lib.Dec.{ltb}
+use native.Mathlib.Nat.{mul_assoc, mul-div_cancel, mod-eq_of_lt}
+use borrow.Author.Tests.{lt-ltb, le-ltb}
 use native.Mathlib.Omega.{arith}
 use lib.ListN.{length, take}
 use lib.Seq.{take-length}
 use Rattle.zuniq.specs.Cells.{n_hash, end}
-use Rattle.zuniq.specs.Codec.{zuniq}
-use Rattle.zuniq.proofs.Basics.{four_pow_split}
+use Rattle.zuniq.specs.Codec.{IsZuniqOf, zuniq}
+use Rattle.zuniq.proofs.Basics.{four_pow_split, four_pow_pos, four_pow_two}
 use Rattle.zuniq.proofs.Codec.{cell, decodes}
-use Rattle.zuniq.proofs.Ranges.{valid_iff_end_le}
+use Rattle.zuniq.proofs.Ranges.{valid_iff_end_le, valid_iff_zuniq_lt, sky-fits}
 use Rattle.mom.specs.Map.{ValidMap}
 use Rattle.mom.proofs.Rises.{Rises as ZuniqsRise, valid_rises}
+use Rattle.moving.specs.Widths.{in_width, MovesTo}
 use Rattle.build.specs.Map.{Entry, entry}
 use Rattle.build.specs.Buffers.{laid, zuniq_of, value_of, read_onto, held}
 use Rattle.build.specs.Promises.{Has, start_of, Falls}
@@ -40,6 +45,32 @@ narrow_shifts d h p = omega (arith, zuniq-scales 29 13 d h p (omega arith))
 -- and widening one to the left.
 pub widen_shifts : (d h : ℕ) → d ≤ 13 → zuniq 13 d h * 2 ^ 32 ≡ zuniq 29 d h
 widen_shifts d h p = omega (arith, zuniq-scales 29 13 d h p (omega arith))
+
+-- Of any two widths: the zuniq of the same cell.
+pub width_changes : (K L d h : ℕ) → d ≤ K → d ≤ L → in_width K L (zuniq K d h) ≡ zuniq L d h
+unfolding in_width
+width_changes K L d h p q =
+    elim (dec_le L K) as (λ _. cond (ltb K L) (zuniq K d h * 4 ^ (L - K)) (zuniq K d h / 4 ^ (K - L)) ≡ zuniq L d h) [
+      | yes l ↦ rw (le-ltb K L l, zuniq-scales K L d h q l) (mul-div_cancel (zuniq L d h) (four_pow_pos (K - L)))
+      | no l ↦ rw (lt-ltb K L (omega arith)) (sym (zuniq-scales L K d h p (omega arith)))
+    ]
+
+-- It is below the bound of that width.
+pub moves_to : (K L z d h : ℕ) → IsZuniqOf K z d h → d ≤ L → MovesTo K L z
+unfolding n_hash
+moves_to K L z d h w q = rw (w.is, width_changes K L d h w.deep q) (omega (arith, (valid_iff_zuniq_lt L d h q).0 w.hash))
+
+-- So a shift is by two bits for each level.
+module _ (K L z : ℕ) (moves : MovesTo K L z) where
+  pub shifted_left : K < L → L ≤ 29 → (z * 2 ^ (2 * (L - K))) % 2 ^ 64 ≡ in_width K L z
+  unfolding in_width
+  shifted_left l u =
+      let e : in_width K L z ≡ z * 2 ^ (2 * (L - K)) = rw (lt-ltb K L l) (ap (λ (p : ℕ). z * p) (four_pow_two (L - K))) in
+      rw (← e) (mod-eq_of_lt (omega (arith, sky-fits L u)))
+
+  pub shifted_right : L ≤ K → z / 2 ^ (2 * (K - L)) ≡ in_width K L z
+  unfolding in_width
+  shifted_right l = rw (le-ltb K L l) (ap (λ (p : ℕ). z / p) (sym (four_pow_two (K - L))))
 
 -- ---- entries
 -- What is read behind entries that end at b, of zuniqs that rise from there.

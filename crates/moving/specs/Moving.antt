@@ -1,7 +1,7 @@
 -- Note 2 of document 02: "moving between widths", of a count map, from zuniqs with the largest depth K to zuniqs with the largest
 -- depth L: from 29 to 13 a map is narrowed, from 13 to 29 widened. A call's refusals are one definition, the first that applies in
 -- order; its answer and both output buffers afterwards are another.
-use Rattle.std.specs.Prelude.{◌≡◌, Bool, false, List, [], ◌∷◌, ◌++◌, ℕ, ◌+◌, ◌-◌, ◌≤◌, ◌<◌, min, ltb, length, get_or, take, replicate}
+use Rattle.std.specs.Prelude.{Result, Ok, Err, ◌≡◌, Bool, false, List, [], ◌∷◌, ◌++◌, ℕ, ◌+◌, ◌-◌, ◌≤◌, ◌<◌, min, ltb, length, get_or, take, replicate}
 use Rattle.std.proofs.Math.Option.{Option, none, some}
 use Rattle.refusal.specs.declared.Refusal.{Refusal}
 use Rattle.zuniq.specs.Codec.{IsZuniqOf, decode}
@@ -39,15 +39,19 @@ moving_refusal K L D zs counts places values =
     (space_refusal places 0 (length zs))))
 
 -- ---- the call
+-- a map of so many entries, in the output
+abbrev pub moved_map : ℕ → ℕ → Moved
+moved_map d n = record { depth = d; entries = n }
+
 -- "Moving answers the depth and the number of entries; [..] places after them are 0": the entries s, laid in zuniqs with the largest
 -- depth L; where there is a refusal the output stays as it was
-unfoldable pub moved_or : Option Refusal → ℕ → ℕ → List (Entry ℕ) → List ℕ → List ℕ → Moved × List ℕ × List ℕ
-moved_or (some r) L d s ozs ovs = (Moved.Refused r, ozs, ovs)
-moved_or none L d s ozs ovs = (Moved.Map d (length s), zuniq_buffer L (length ozs) s, value_buffer 0 (length ovs) s)
+unfoldable pub moved_or : Option Refusal → ℕ → ℕ → List (Entry ℕ) → List ℕ → List ℕ → Result Moved Refusal × List ℕ × List ℕ
+moved_or (some r) L d s ozs ovs = (Err r, ozs, ovs)
+moved_or none L d s ozs ovs = (Ok (moved_map d (length s)), zuniq_buffer L (length ozs) s, value_buffer 0 (length ovs) s)
 
 -- "A narrowed map's depth is the smaller of its own and 13, a widened one's its own", which is the smaller of its own and 29. The map
 -- is the zuniqs zs with the counts vs, the output held ozs and ovs.
-unfoldable pub moved : ℕ → ℕ → ℕ → List ℕ → List ℕ → List ℕ → List ℕ → Moved × List ℕ × List ℕ
+unfoldable pub moved : ℕ → ℕ → ℕ → List ℕ → List ℕ → List ℕ → List ℕ → Result Moved Refusal × List ℕ × List ℕ
 moved K L D zs vs ozs ovs = moved_or (moving_refusal K L D zs (length vs) (length ozs) (length ovs)) L (min D L) (held K (length zs) zs vs) ozs ovs
 
 -- ---- what is shown of every call
@@ -60,7 +64,7 @@ pub record Moves (K L D : ℕ) (zs vs : List ℕ) (d n : ℕ) (xs ws : List ℕ)
   pub valid : ValidMap L d (take n xs)
   pub same : held L n xs ws ≡ held K n zs vs
   pub back : (ozs ovs : List ℕ) → length ozs ≡ length ovs → n ≤ length ozs
-      → moved L K d (take n xs) (take n ws) ozs ovs ≡ (Moved.Map d n, zs ++ replicate (length ozs - n) 0, vs ++ replicate (length ovs - n) 0)
+      → moved L K d (take n xs) (take n ws) ozs ovs ≡ (Ok (moved_map d n), zs ++ replicate (length ozs - n) 0, vs ++ replicate (length ovs - n) 0)
 
 -- A call to which rows 1, 4 and 5 don't apply.
 pub record Acceptable (K D : ℕ) (zs vs ozs ovs : List ℕ) : Type 0 where

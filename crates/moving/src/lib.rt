@@ -11,194 +11,147 @@
 // that is deeper than 13 (13, place the entry); fewer places in the output than entries (11).
 #![tactic(auto)]
 
-ghost use Rattle.std.specs.Prelude.{◌≡◌, map, ◌*◌, ◌/◌, ◌^◌, ◌≤◌, min, length, take};
+ghost use Rattle.std.specs.Prelude.{◌≡◌, ℕ, map, ◌≤◌, ◌<◌, min, length, get_or, ◌++◌, ◌-◌, replicate};
 ghost use Rattle.zuniq.specs.Codec.{decode};
 ghost use Rattle.refusal.specs.Checks.{check_of};
 ghost use Rattle.moving.specs.Moving.{is_deeper, deep_refusal, entries_refusal, moving_refusal, moved};
+ghost use Rattle.moving.specs.Widths.{in_width, MovesTo};
 
-use build::free::{clear_counts, clear_counts as clear_narrow_zuniqs, clear_zuniqs};
 use build::{check_lengths, check_map, check_space};
-use mom::{FirstFault, first_fault};
-use narrow::first_fault as first_narrow_fault;
-use refusal::{Check, Refusal};
-use zuniq::narrow::Zuniq32;
-use zuniq::{Decoded, Zuniq64};
+use refusal::Refusal;
+use zuniq::{DIM, Decoded, ZUniqHashT};
 
-// What moving answers: the depth and the number of entries of the map in the output, or why it is
-// refused.
-#[derive(Clone, Copy)]
-pub enum Moved {
-    Map { depth: u8, entries: usize },
-    Refused(Refusal),
+// The map in the output.
+#[derive(Clone, Copy, Debug, PartialEq, Eq)]
+pub struct Moved {
+    pub depth: u8,
+    pub entries: usize,
 }
 
-// Writes a map anew in u32 zuniqs.
-pub fn narrow(
+// Writes a map anew, in zuniqs of another width. Narrowed it keeps its depth or has the largest of a
+// narrow map; widened it keeps its own.
+pub fn move_map<Z: ZUniqHashT, W: ZUniqHashT>(
     depth: u8,
-    zuniqs: &[u64],
+    zuniqs: &[Z],
     counts: &[u32],
-    out_zuniqs: &mut [u32],
+    out_zuniqs: &mut [W],
     out_counts: &mut [u32],
-) -> Moved
-    ensures { (result, out_zuniqs.new, out_counts.new) ≡ moved 29 13 depth zuniqs.now counts.now out_zuniqs.old out_counts.old }
+) -> Result<Moved, Refusal>
+    ensures { (result, W.numbers out_zuniqs.new, out_counts.new) ≡ moved Z.MAX_DEPTH W.MAX_DEPTH depth (Z.numbers zuniqs.now) counts.now (W.numbers out_zuniqs.old) out_counts.old }
 {
-    let checked = check_narrow(
+    check::<Z, W>(
         depth,
         zuniqs,
         counts.len(),
         out_zuniqs.len(),
         out_counts.len(),
-    );
-    if let Check::Refused(refusal) = checked {
-        return Moved::Refused(refusal);
-    }
-    let entries = zuniqs.len();
-    narrow_zuniqs(zuniqs, out_zuniqs);
-    copy_counts(counts, out_counts);
-    clear_narrow_zuniqs(&mut out_zuniqs[entries..]);
-    clear_counts(&mut out_counts[entries..]);
-    Moved::Map {
-        depth: smaller(depth, Zuniq32::MAX_DEPTH),
-        entries,
-    }
+    )?;
+    write_zuniqs(zuniqs, out_zuniqs);
+    write_counts(counts, out_counts);
+    Ok(Moved {
+        depth: depth.min(W::MAX_DEPTH),
+        entries: zuniqs.len(),
+    })
 }
 
-// Writes a narrow map anew in u64 zuniqs, which have all of its depths: it keeps its own.
-pub fn widen(
+// All that can be refused, in the order of the table. Compiled by itself, the pass over the map is
+// faster than among what is written behind it.
+#[inline(never)]
+#[tactic(auto, unfolding(crate::specs::Moving::moving_refusal))]
+fn check<Z: ZUniqHashT, W: ZUniqHashT>(
     depth: u8,
-    zuniqs: &[u32],
-    counts: &[u32],
-    out_zuniqs: &mut [u64],
-    out_counts: &mut [u32],
-) -> Moved
-    ensures { (result, out_zuniqs.new, out_counts.new) ≡ moved 13 29 depth zuniqs.now counts.now out_zuniqs.old out_counts.old }
+    zuniqs: &[Z],
+    counts: usize,
+    places: usize,
+    values: usize,
+) -> Result<(), Refusal>
+    ensures { result ≡ check_of (moving_refusal Z.MAX_DEPTH W.MAX_DEPTH depth (Z.numbers zuniqs.now) counts places values) }
 {
-    let checked = check_widen(
-        depth,
-        zuniqs,
-        counts.len(),
-        out_zuniqs.len(),
-        out_counts.len(),
-    );
-    if let Check::Refused(refusal) = checked {
-        return Moved::Refused(refusal);
+    if depth > Z::MAX_DEPTH {
+        return Err(Refusal::DepthOutOfRange);
     }
-    let entries = zuniqs.len();
-    widen_zuniqs(zuniqs, out_zuniqs);
-    copy_counts(counts, out_counts);
-    clear_zuniqs(&mut out_zuniqs[entries..]);
-    clear_counts(&mut out_counts[entries..]);
-    Moved::Map { depth, entries }
-}
-
-// All that can be refused in narrowing, in the order of the table.
-fn check_narrow(depth: u8, zuniqs: &[u64], counts: usize, places: usize, values: usize) -> Check
-    ensures { result ≡ check_of (moving_refusal 29 13 depth zuniqs.now counts places values) }
-{
-    if depth > Zuniq64::MAX_DEPTH {
-        return Check::Refused(Refusal::DepthOutOfRange);
-    }
-    if let Check::Refused(refusal) = check_lengths(0, zuniqs.len(), counts, places, values) {
-        return Check::Refused(refusal);
-    }
-    if let Check::Refused(refusal) = check_entries(depth, zuniqs) {
-        return Check::Refused(refusal);
-    }
-    check_space(places, 0, zuniqs.len())
-}
-
-// The same in widening, where no entry is too deep.
-fn check_widen(depth: u8, zuniqs: &[u32], counts: usize, places: usize, values: usize) -> Check
-    ensures { result ≡ check_of (moving_refusal 13 29 depth zuniqs.now counts places values) }
-{
-    if depth > Zuniq32::MAX_DEPTH {
-        return Check::Refused(Refusal::DepthOutOfRange);
-    }
-    if let Check::Refused(refusal) = check_lengths(0, zuniqs.len(), counts, places, values) {
-        return Check::Refused(refusal);
-    }
-    if let FirstFault::At(place, _) = first_narrow_fault(depth, zuniqs) {
-        return Check::Refused(Refusal::InvalidMap(place));
-    }
+    check_lengths(0, zuniqs.len(), counts, places, values)?;
+    check_entries::<Z, W>(depth, zuniqs)?;
     check_space(places, 0, zuniqs.len())
 }
 
 // Rows 5 and 13. A map that is valid of the depth that it shall have in the output is valid of its own
-// and has no entry that is too deep: so a map that can be narrowed is read once. Only where that finds a
+// and has no entry that is too deep: so a map that can be moved is read once. Only where that finds a
 // fault are the two reasons told apart, in their order.
-fn check_entries(depth: u8, zuniqs: &[u64]) -> Check
-    ensures { result ≡ check_of (entries_refusal 29 13 depth zuniqs.now) }
+fn check_entries<Z: ZUniqHashT, W: ZUniqHashT>(depth: u8, zuniqs: &[Z]) -> Result<(), Refusal>
+    ensures { result ≡ check_of (entries_refusal Z.MAX_DEPTH W.MAX_DEPTH depth (Z.numbers zuniqs.now)) }
 {
-    if let FirstFault::Nothing = first_fault(smaller(depth, Zuniq32::MAX_DEPTH), zuniqs) {
-        return Check::Passed;
+    if check_map(depth.min(W::MAX_DEPTH), zuniqs).is_ok() {
+        return Ok(());
     }
-    if let Check::Refused(refusal) = check_map(depth, zuniqs) {
-        return Check::Refused(refusal);
-    }
-    check_deep(zuniqs)
+    check_both::<Z, W>(depth, zuniqs)
+}
+
+// Row 5, then row 13.
+#[tactic(auto, unfolding(crate::specs::Moving::entries_refusal))]
+fn check_both<Z: ZUniqHashT, W: ZUniqHashT>(depth: u8, zuniqs: &[Z]) -> Result<(), Refusal>
+    ensures { result ≡ check_of (entries_refusal Z.MAX_DEPTH W.MAX_DEPTH depth (Z.numbers zuniqs.now)) }
+{
+    check_map(depth, zuniqs)?;
+    check_deep::<Z, W>(zuniqs)
 }
 
 // Row 13.
-fn check_deep(zuniqs: &[u64]) -> Check
-    ensures { result ≡ check_of (deep_refusal 29 13 0 zuniqs.now) }
+fn check_deep<Z: ZUniqHashT, W: ZUniqHashT>(zuniqs: &[Z]) -> Result<(), Refusal>
+    ensures { result ≡ check_of (deep_refusal Z.MAX_DEPTH W.MAX_DEPTH 0 (Z.numbers zuniqs.now)) }
 {
-    let mut i = 0;
-    while i < zuniqs.len() {
-        if is_deep(zuniqs[i]) {
-            return Check::Refused(Refusal::EntryTooDeep(i));
+    for (i, &zuniq) in zuniqs.iter().enumerate() {
+        if is_deep::<Z, W>(zuniq) {
+            return Err(Refusal::EntryTooDeep(i));
         }
-        i += 1;
     }
-    Check::Passed
+    Ok(())
 }
 
-// Whether a value is the zuniq of a cell deeper than any of a narrow map.
-fn is_deep(zuniq: u64) -> bool
-    ensures { result ≡ is_deeper 13 (decode 29 «zuniq») }
+// Whether a value is the zuniq of a cell deeper than any of the other width.
+#[tactic(auto, unfolding(crate::specs::Moving::is_deeper))]
+fn is_deep<Z: ZUniqHashT, W: ZUniqHashT>(zuniq: Z) -> bool
+    ensures { result ≡ is_deeper W.MAX_DEPTH (decode Z.MAX_DEPTH (Z.number «zuniq»)) }
 {
-    let Decoded::Cell(cell) = Zuniq64::from_zuniq(zuniq) else {
+    let Decoded::Cell(cell) = Z::from_zuniq(zuniq) else {
         return false;
     };
-    cell.depth > Zuniq32::MAX_DEPTH
+    cell.depth > W::MAX_DEPTH
 }
 
-// A narrow zuniq is the upper half of the cell's u64 one.
-fn narrow_zuniqs(zuniqs: &[u64], out: &mut [u32])
-    requires { length zuniqs.now ≤ length out.old }
-    ensures { take (length zuniqs.now) out.new ≡ map (λ z. z / 2 ^ 32) zuniqs.now }
+// Writes the zuniqs of the same cells, and 0 behind them.
+fn write_zuniqs<Z: ZUniqHashT, W: ZUniqHashT>(zuniqs: &[Z], out: &mut [W])
+    requires { (length zuniqs.now ≤ length out.old) × ((i : ℕ) → i < length zuniqs.now → MovesTo Z.MAX_DEPTH W.MAX_DEPTH (get_or (Z.numbers zuniqs.now) i 0)) }
+    ensures { W.numbers out.new ≡ map (in_width Z.MAX_DEPTH W.MAX_DEPTH) (Z.numbers zuniqs.now) ++ replicate (length out.old - length zuniqs.now) 0 }
 {
-    let mut i = 0;
-    while i < zuniqs.len() {
-        out[i] = (zuniqs[i] >> 32) as u32;
-        i += 1;
+    for (i, &zuniq) in zuniqs.iter().enumerate() {
+        out[i] = change_width(zuniq);
+    }
+    for place in zuniqs.len()..out.len() {
+        out[place] = W::of_u64(0);
     }
 }
 
-// The lower half of such a u64 zuniq is 0.
-fn widen_zuniqs(zuniqs: &[u32], out: &mut [u64])
-    requires { length zuniqs.now ≤ length out.old }
-    ensures { take (length zuniqs.now) out.new ≡ map (λ z. z * 2 ^ 32) zuniqs.now }
-{
-    let mut i = 0;
-    while i < zuniqs.len() {
-        out[i] = (zuniqs[i] as u64) << 32;
-        i += 1;
-    }
-}
-
-fn copy_counts(counts: &[u32], out: &mut [u32])
+// Writes the counts, and 0 behind them.
+fn write_counts(counts: &[u32], out: &mut [u32])
     requires { length counts.now ≤ length out.old }
-    ensures { take (length counts.now) out.new ≡ counts.now }
+    ensures { out.new ≡ counts.now ++ replicate (length out.old - length counts.now) 0 }
 {
-    let mut i = 0;
-    while i < counts.len() {
-        out[i] = counts[i];
-        i += 1;
-    }
+    out[..counts.len()].copy_from_slice(counts);
+    out[counts.len()..].fill(0);
 }
 
-fn smaller(depth: u8, other: u8) -> u8
-    ensures { result ≡ min depth other }
+// The zuniq of the same cell: a wider one has more zeros behind it.
+fn change_width<Z: ZUniqHashT, W: ZUniqHashT>(zuniq: Z) -> W
+    requires { MovesTo Z.MAX_DEPTH W.MAX_DEPTH (Z.number «zuniq») }
+    ensures { W.number result ≡ in_width Z.MAX_DEPTH W.MAX_DEPTH (Z.number «zuniq») }
 {
-    if depth > other { other } else { depth }
+    let number = zuniq.as_u64();
+    let from = Z::MAX_DEPTH;
+    let to = W::MAX_DEPTH;
+    if from < to {
+        W::of_u64(number << (DIM * (to - from)))
+    } else {
+        W::of_u64(number >> (DIM * (from - to)))
+    }
 }

@@ -8,31 +8,42 @@
 // the pool of maps whose cells are counted.
 #![tactic(auto)]
 
-ghost use Rattle.std.specs.Prelude.{◌≡◌, [], ◌+◌, ◌≤◌, length};
-ghost use Rattle.protection.specs.Protected.{RisingList};
+ghost use Rattle.std.specs.Prelude.{◌≡◌, [], ◌+◌, ◌≤◌, length, MatchResult};
+ghost use Rattle.std.proofs.Math.Option.{none, some};
+ghost use Rattle.refusal.specs.Checks.{ok_unless};
 ghost use Rattle.merger.specs.Merge.{accept_counts};
 ghost use Rattle.build.specs.Add.{sum_of};
 ghost use Rattle.build.specs.Stack.{run};
-ghost use Rattle.build.specs.Counts.{total_of, total_or};
-ghost use Rattle.combine.specs.Slices.{entries_of, Holds};
+ghost use Rattle.build.specs.Counts.{total_of};
+ghost use Rattle.combine.specs.Slices.{entries_of};
 ghost use Rattle.combine.specs.Counts.{pool_cells};
 ghost use Rattle.combine.specs.Pool.{Given, pool_input_refusal, sums_refusal, places_refusal, pool_over, pool_counts};
 
-use build::counts::{CountsAdded, Total};
-use build::free::{clear_counts, clear_zuniqs};
+use build::counts::Added;
+use build::free::clear;
 use build_counts::capped_sum;
+use combine::counting::Counting;
 use combine::counts::Figures;
-use combine::{Pass, check_maps, check_pairs, check_settings};
-use protection::check_protected;
-use refusal::{Check, Refusal};
+use combine::map::Map;
+use combine::{check_maps, check_pairs, check_settings};
+use merger::CountMerger;
+use protection::Protected;
+use refusal::Refusal;
 use tally::PLACES;
-use walk::{pool_cells, tally_cells};
+use walk::{Merging, Tallying, pool_cells};
 
 mod walk;
 
 const MAX_COUNT: u64 = 4294967295;
 
-// Pools two maps into two output buffers.
+// What a pool comes to know when its input is checked: the protected parents, and the total of both maps.
+#[derive(Drop)]
+pub struct Checked<'a> {
+    pub protected: Protected<'a, u64>,
+    pub total: u32,
+}
+
+// Pools two maps into two output buffers. Maps and settings are parameters of their own, as C hands them.
 pub fn pool(
     left_depth: u8,
     left_zuniqs: &[u64],
@@ -45,10 +56,10 @@ pub fn pool(
     protected: &[u64],
     zuniqs: &mut [u64],
     counts: &mut [u32],
-) -> CountsAdded
+) -> Result<Added, Refusal>
     ensures { (result, zuniqs.new, counts.new) ≡ pool_counts protected.now (record { depth = left_depth; zuniqs = left_zuniqs.now; values = left_counts.now }) (record { depth = right_depth; zuniqs = right_zuniqs.now; values = right_counts.now }) depth_threshold chi2_threshold zuniqs.old counts.old }
 {
-    match check(
+    let checked = check(
         left_depth,
         left_zuniqs,
         left_counts,
@@ -60,130 +71,82 @@ pub fn pool(
         protected,
         zuniqs.len(),
         counts.len(),
-    ) {
-        Total::Refused(refusal) => CountsAdded::Refused(refusal),
-        Total::Sum(total) => pool_checked(
-            left_zuniqs,
-            left_counts,
-            right_zuniqs,
-            right_counts,
-            depth_threshold,
-            chi2_threshold,
-            protected,
-            total,
-            zuniqs,
-            counts,
-        ),
-    }
+    )?;
+    let left = Map {
+        depth: left_depth,
+        zuniqs: left_zuniqs,
+        values: left_counts,
+    };
+    let right = Map {
+        depth: right_depth,
+        zuniqs: right_zuniqs,
+        values: right_counts,
+    };
+    let merger = CountMerger {
+        depth_threshold,
+        chi2_threshold,
+        protected: checked.protected,
+    };
+    pool_checked(&left, &right, &merger, checked.total, zuniqs, counts)
 }
 
 // Pools two maps that have passed: what is left to be known is whether there is space.
 fn pool_checked(
-    left_zuniqs: &[u64],
-    left_counts: &[u32],
-    right_zuniqs: &[u64],
-    right_counts: &[u32],
-    depth_threshold: u8,
-    chi2_threshold: f64,
-    protected: &[u64],
+    left: &Map<u32>,
+    right: &Map<u32>,
+    merger: &CountMerger<u64>,
     total: u32,
     zuniqs: &mut [u64],
     counts: &mut [u32],
-) -> CountsAdded
-    requires { Holds left_zuniqs.now left_counts.now × Holds right_zuniqs.now right_counts.now × (total_of (entries_of left_zuniqs.now left_counts.now) + total_of (entries_of right_zuniqs.now right_counts.now) ≡ total) × (length zuniqs.old ≡ length counts.old) × RisingList protected.now }
-    ensures { (result, zuniqs.new, counts.new) ≡ pool_over protected.now 29 (places_refusal (length zuniqs.old) (length (pool_cells left_zuniqs.now left_counts.now right_zuniqs.now right_counts.now))) (entries_of left_zuniqs.now left_counts.now) (entries_of right_zuniqs.now right_counts.now) depth_threshold chi2_threshold zuniqs.old counts.old }
+) -> Result<Added, Refusal>
+    requires { (total_of (entries_of left.now.zuniqs.now left.now.values.now) + total_of (entries_of right.now.zuniqs.now right.now.values.now) ≡ total) × (length zuniqs.old ≡ length counts.old) }
+    ensures { (result, zuniqs.new, counts.new) ≡ pool_over merger.now.protected.zuniqs.now 29 (places_refusal (length zuniqs.old) (length (pool_cells left.now.zuniqs.now left.now.values.now right.now.zuniqs.now right.now.values.now))) (entries_of left.now.zuniqs.now left.now.values.now) (entries_of right.now.zuniqs.now right.now.values.now) merger.now.depth_threshold merger.now.chi2_threshold zuniqs.old counts.old }
 {
-    let cells = pool_cells(
-        left_zuniqs,
-        left_counts,
-        right_zuniqs,
-        right_counts,
-        Pass::Count,
-        protected,
-        zuniqs,
-        counts,
-    );
-    pool_counted(
-        left_zuniqs,
-        left_counts,
-        right_zuniqs,
-        right_counts,
-        depth_threshold,
-        chi2_threshold,
-        protected,
-        cells,
-        total,
-        zuniqs,
-        counts,
-    )
+    let Ok(cells) = pool_cells(Counting, left, right, zuniqs, counts) else {
+        unreachable!()
+    };
+    pool_counted(left, right, merger, cells, total, zuniqs, counts)
 }
 
 // Pools two maps that have passed and have so many cells in their overlay, if there is space for them.
 pub fn pool_counted(
-    left_zuniqs: &[u64],
-    left_counts: &[u32],
-    right_zuniqs: &[u64],
-    right_counts: &[u32],
-    depth_threshold: u8,
-    chi2_threshold: f64,
-    protected: &[u64],
+    left: &Map<u32>,
+    right: &Map<u32>,
+    merger: &CountMerger<u64>,
     cells: usize,
     total: u32,
     zuniqs: &mut [u64],
     counts: &mut [u32],
-) -> CountsAdded
-    requires { Holds left_zuniqs.now left_counts.now × Holds right_zuniqs.now right_counts.now × (total_of (entries_of left_zuniqs.now left_counts.now) + total_of (entries_of right_zuniqs.now right_counts.now) ≡ total) × (length zuniqs.old ≡ length counts.old) × RisingList protected.now × (cells ≡ length (pool_cells left_zuniqs.now left_counts.now right_zuniqs.now right_counts.now)) }
-    ensures { (result, zuniqs.new, counts.new) ≡ pool_over protected.now 29 (places_refusal (length zuniqs.old) (length (pool_cells left_zuniqs.now left_counts.now right_zuniqs.now right_counts.now))) (entries_of left_zuniqs.now left_counts.now) (entries_of right_zuniqs.now right_counts.now) depth_threshold chi2_threshold zuniqs.old counts.old }
+) -> Result<Added, Refusal>
+    requires { (total_of (entries_of left.now.zuniqs.now left.now.values.now) + total_of (entries_of right.now.zuniqs.now right.now.values.now) ≡ total) × (length zuniqs.old ≡ length counts.old) × (cells ≡ length (pool_cells left.now.zuniqs.now left.now.values.now right.now.zuniqs.now right.now.values.now)) }
+    ensures { (result, zuniqs.new, counts.new) ≡ pool_over merger.now.protected.zuniqs.now 29 (places_refusal (length zuniqs.old) (length (pool_cells left.now.zuniqs.now left.now.values.now right.now.zuniqs.now right.now.values.now))) (entries_of left.now.zuniqs.now left.now.values.now) (entries_of right.now.zuniqs.now right.now.values.now) merger.now.depth_threshold merger.now.chi2_threshold zuniqs.old counts.old }
 {
     if zuniqs.len() < cells {
-        return CountsAdded::Refused(Refusal::NoSpace);
+        return Err(Refusal::NoSpace);
     }
-    let pass = Pass::Merge {
-        depth_threshold,
-        chi2_threshold,
+    let Ok(entries) = pool_cells(Merging { merger }, left, right, zuniqs, counts) else {
+        unreachable!()
     };
-    let entries = pool_cells(
-        left_zuniqs,
-        left_counts,
-        right_zuniqs,
-        right_counts,
-        pass,
-        protected,
-        zuniqs,
-        counts,
-    );
-    clear_zuniqs(&mut zuniqs[entries..]);
-    clear_counts(&mut counts[entries..]);
-    CountsAdded::Added { entries, total }
+    clear(&mut zuniqs[entries..], 0);
+    clear(&mut counts[entries..], 0);
+    Ok(Added { entries, total })
 }
 
 // What the pool of two maps that have passed comes to, found in fixed memory.
 pub fn pool_figures(
-    left_zuniqs: &[u64],
-    left_counts: &[u32],
-    right_zuniqs: &[u64],
-    right_counts: &[u32],
-    depth_threshold: u8,
-    chi2_threshold: f64,
-    protected: &[u64],
+    left: &Map<u32>,
+    right: &Map<u32>,
+    merger: &CountMerger<u64>,
     total: u32,
 ) -> Figures
-    requires { Holds left_zuniqs.now left_counts.now × Holds right_zuniqs.now right_counts.now × (total_of (entries_of left_zuniqs.now left_counts.now) + total_of (entries_of right_zuniqs.now right_counts.now) ≡ total) × RisingList protected.now }
-    ensures { result ≡ record { cells = length (pool_cells left_zuniqs.now left_counts.now right_zuniqs.now right_counts.now); entries = length (run (accept_counts 29 protected.now depth_threshold chi2_threshold) [] (pool_cells left_zuniqs.now left_counts.now right_zuniqs.now right_counts.now)); total = total } }
+    requires { (total_of (entries_of left.now.zuniqs.now left.now.values.now) + total_of (entries_of right.now.zuniqs.now right.now.values.now) ≡ total) }
+    ensures { result ≡ record { cells = length (pool_cells left.now.zuniqs.now left.now.values.now right.now.zuniqs.now right.now.values.now); entries = length (run (accept_counts 29 merger.now.protected.zuniqs.now merger.now.depth_threshold merger.now.chi2_threshold) [] (pool_cells left.now.zuniqs.now left.now.values.now right.now.zuniqs.now right.now.values.now)); total = total } }
 {
     let mut zuniqs = [0u64; PLACES];
     let mut counts = [0u32; PLACES];
-    let tallied = tally_cells(
-        left_zuniqs,
-        left_counts,
-        right_zuniqs,
-        right_counts,
-        depth_threshold,
-        chi2_threshold,
-        protected,
-        &mut zuniqs,
-        &mut counts,
-    );
+    let Ok(tallied) = pool_cells(Tallying { merger }, left, right, &mut zuniqs, &mut counts) else {
+        unreachable!()
+    };
     let entries = tallied.settled + tallied.live;
     Figures {
         cells: tallied.cells,
@@ -192,9 +155,10 @@ pub fn pool_figures(
     }
 }
 
-// All that can be refused before the overlay is walked, in the order of the table; the total of both
-// maps where nothing is.
-pub fn check(
+// All that can be refused before the overlay is walked, in the order of the table; the protected parents and
+// the total of both maps where nothing is.
+#[tactic(auto, unfolding(combine::specs::Pool::pool_input_refusal, combine::specs::Pool::maps_refusal))]
+pub fn check<'a>(
     left_depth: u8,
     left_zuniqs: &[u64],
     left_counts: &[u32],
@@ -203,52 +167,34 @@ pub fn check(
     right_counts: &[u32],
     depth_threshold: u8,
     chi2_threshold: f64,
-    protected: &[u64],
+    protected: &'a [u64],
     places: usize,
     values: usize,
-) -> Total
-    ensures { result ≡ total_or (pool_input_refusal protected.now (record { depth = left_depth; zuniqs = left_zuniqs.now; values = left_counts.now }) (record { depth = right_depth; zuniqs = right_zuniqs.now; values = right_counts.now }) depth_threshold chi2_threshold places values) (sum_of left_counts.now + sum_of right_counts.now) }
+) -> Result<Checked<'a>, Refusal>
+    ensures { MatchResult result (λ c. (c.protected.zuniqs.now ≡ protected.now) × (c.total ≡ sum_of left_counts.now + sum_of right_counts.now) × (pool_input_refusal protected.now (record { depth = left_depth; zuniqs = left_zuniqs.now; values = left_counts.now }) (record { depth = right_depth; zuniqs = right_zuniqs.now; values = right_counts.now }) depth_threshold chi2_threshold places values ≡ none)) (λ r. pool_input_refusal protected.now (record { depth = left_depth; zuniqs = left_zuniqs.now; values = left_counts.now }) (record { depth = right_depth; zuniqs = right_zuniqs.now; values = right_counts.now }) depth_threshold chi2_threshold places values ≡ some r) }
 {
-    if let Check::Refused(refusal) = check_settings(
-        left_depth,
-        right_depth,
-        depth_threshold,
-        chi2_threshold,
-    ) {
-        return Total::Refused(refusal);
-    }
-    if let Check::Refused(refusal) = check_protected(protected) {
-        return Total::Refused(refusal);
-    }
-    if let Check::Refused(refusal) = check_pairs(
+    check_settings(left_depth, right_depth, depth_threshold, chi2_threshold)?;
+    let protected = Protected::check(protected)?;
+    check_pairs(
         left_zuniqs.len(),
         left_counts.len(),
         right_zuniqs.len(),
         right_counts.len(),
         places,
         values,
-    ) {
-        return Total::Refused(refusal);
-    }
-    if let Check::Refused(refusal) = check_maps(
-        left_depth,
-        left_zuniqs,
-        right_depth,
-        right_zuniqs,
-    ) {
-        return Total::Refused(refusal);
-    }
-    check_sums(capped_sum(left_counts), capped_sum(right_counts))
+    )?;
+    check_maps(left_depth, left_zuniqs, right_depth, right_zuniqs)?;
+    let total = check_sums(left_counts, right_counts)?;
+    Ok(Checked { protected, total })
 }
 
-// Row 10, of sums that are cut off one above the largest u32.
-fn check_sums(left: u64, right: u64) -> Total
-    requires { (left ≤ 4294967296) × (right ≤ 4294967296) }
-    ensures { result ≡ total_or (sums_refusal left right) (left + right) }
+// Row 10; the total of both maps. Sums that are cut off one above the largest u32 tell as much.
+fn check_sums(left: &[u32], right: &[u32]) -> Result<u32, Refusal>
+    ensures { result ≡ ok_unless (sums_refusal (sum_of left.now) (sum_of right.now)) (sum_of left.now + sum_of right.now) }
 {
-    let total = left + right;
+    let total = capped_sum(left) + capped_sum(right);
     if total > MAX_COUNT {
-        return Total::Refused(Refusal::CountOverflow(0));
+        return Err(Refusal::CountOverflow(0));
     }
-    Total::Sum(total as u32)
+    Ok(total as u32)
 }

@@ -7,27 +7,27 @@
 // merge them.
 #![tactic(auto)]
 
-ghost use Rattle.std.specs.Prelude.{◌≡◌, length};
+ghost use Rattle.std.specs.Prelude.{◌≡◌, length, MatchResult};
+ghost use Rattle.std.proofs.Math.Option.{none, some};
 ghost use Rattle.refusal.specs.Checks.{or_else, check_of};
-ghost use Rattle.protection.specs.Protected.{RisingList};
 ghost use Rattle.build.specs.Densities.{density_refusal};
-ghost use Rattle.combine.specs.Slices.{entries_of, Holds};
+ghost use Rattle.combine.specs.Slices.{entries_of};
 ghost use Rattle.combine.specs.Densities.{product_cells};
 ghost use Rattle.combine.specs.Pool.{Given, factor_refusal, product_input_refusal, finite_refusal, places_refusal, product_over, product_densities};
 
-use build::densities::DensitiesAdded;
-use build::free::{clear_densities, clear_zuniqs};
+use build::free::clear;
 use build_densities::check_densities;
-use combine::densities::Cells;
-use combine::{Pass, check_maps, check_pairs, check_settings};
-use merger::invalid_density;
-use protection::check_protected;
-use refusal::{Check, Refusal};
-use walk::product_cells;
+use combine::map::Map;
+use combine::{check_maps, check_pairs, check_settings};
+use merger::{DensityMerger, invalid_density};
+use protection::Protected;
+use refusal::Refusal;
+use walk::{Merging, Trying, product_cells};
 
 mod walk;
 
-// Multiplies two maps into two output buffers.
+// Multiplies two maps into two output buffers. Answers the number of entries. Maps and settings are
+// parameters of their own, as C hands them.
 pub fn product(
     left_depth: u8,
     left_zuniqs: &[u64],
@@ -41,10 +41,10 @@ pub fn product(
     protected: &[u64],
     zuniqs: &mut [u64],
     densities: &mut [f64],
-) -> DensitiesAdded
+) -> Result<usize, Refusal>
     ensures { (result, zuniqs.new, densities.new) ≡ product_densities protected.now (record { depth = left_depth; zuniqs = left_zuniqs.now; values = left_densities.now }) (record { depth = right_depth; zuniqs = right_zuniqs.now; values = right_densities.now }) depth_threshold chi2_threshold k zuniqs.old densities.old }
 {
-    if let Check::Refused(refusal) = check(
+    let protected = check(
         left_depth,
         left_zuniqs,
         left_densities,
@@ -57,79 +57,52 @@ pub fn product(
         protected,
         zuniqs.len(),
         densities.len(),
-    ) {
-        return DensitiesAdded::Refused(refusal);
-    }
-    product_checked(
-        left_zuniqs,
-        left_densities,
-        right_zuniqs,
-        right_densities,
-        depth_threshold,
-        chi2_threshold,
-        k,
-        protected,
-        zuniqs,
-        densities,
-    )
+    )?;
+    let left = Map {
+        depth: left_depth,
+        zuniqs: left_zuniqs,
+        values: left_densities,
+    };
+    let right = Map {
+        depth: right_depth,
+        zuniqs: right_zuniqs,
+        values: right_densities,
+    };
+    // Most quads are of the deeper map's depth. Base cells have no parent, and none asks.
+    let parent_depth = left_depth.max(right_depth).saturating_sub(1);
+    let merger = DensityMerger::new(parent_depth, depth_threshold, chi2_threshold, protected);
+    product_checked(&left, &right, &merger, k, zuniqs, densities)
 }
 
 // Multiplies two maps that have passed: what is left to be known is whether all products are finite,
 // and whether there is space.
 fn product_checked(
-    left_zuniqs: &[u64],
-    left_densities: &[f64],
-    right_zuniqs: &[u64],
-    right_densities: &[f64],
-    depth_threshold: u8,
-    chi2_threshold: f64,
+    left: &Map<f64>,
+    right: &Map<f64>,
+    merger: &DensityMerger,
     k: f64,
-    protected: &[u64],
     zuniqs: &mut [u64],
     densities: &mut [f64],
-) -> DensitiesAdded
-    requires { Holds left_zuniqs.now left_densities.now × Holds right_zuniqs.now right_densities.now × (length zuniqs.old ≡ length densities.old) × RisingList protected.now }
-    ensures { (result, zuniqs.new, densities.new) ≡ product_over protected.now 29 (or_else (finite_refusal (product_cells k left_zuniqs.now left_densities.now right_zuniqs.now right_densities.now)) (places_refusal (length zuniqs.old) (length (product_cells k left_zuniqs.now left_densities.now right_zuniqs.now right_densities.now)))) (entries_of left_zuniqs.now left_densities.now) (entries_of right_zuniqs.now right_densities.now) depth_threshold chi2_threshold k zuniqs.old densities.old }
+) -> Result<usize, Refusal>
+    requires { length zuniqs.old ≡ length densities.old }
+    ensures { (result, zuniqs.new, densities.new) ≡ product_over merger.now.protected.zuniqs.now 29 (or_else (finite_refusal (product_cells k left.now.zuniqs.now left.now.values.now right.now.zuniqs.now right.now.values.now)) (places_refusal (length zuniqs.old) (length (product_cells k left.now.zuniqs.now left.now.values.now right.now.zuniqs.now right.now.values.now)))) (entries_of left.now.zuniqs.now left.now.values.now) (entries_of right.now.zuniqs.now right.now.values.now) merger.now.depth_threshold merger.now.chi2_threshold k zuniqs.old densities.old }
 {
-    let Cells::Number(cells) = product_cells(
-        left_zuniqs,
-        left_densities,
-        right_zuniqs,
-        right_densities,
-        k,
-        Pass::Count,
-        protected,
-        zuniqs,
-        densities,
-    ) else {
-        return DensitiesAdded::Refused(Refusal::ProductNotFinite);
-    };
+    let cells = product_cells(k, Trying, left, right, zuniqs, densities)?;
     if zuniqs.len() < cells {
-        return DensitiesAdded::Refused(Refusal::NoSpace);
+        return Err(Refusal::NoSpace);
     }
-    let Cells::Number(entries) = product_cells(
-        left_zuniqs,
-        left_densities,
-        right_zuniqs,
-        right_densities,
-        k,
-        Pass::Merge {
-            depth_threshold,
-            chi2_threshold,
-        },
-        protected,
-        zuniqs,
-        densities,
-    ) else {
-        return DensitiesAdded::Refused(Refusal::ProductNotFinite);
+    let Ok(entries) = product_cells(k, Merging { merger }, left, right, zuniqs, densities) else {
+        unreachable!()
     };
-    clear_zuniqs(&mut zuniqs[entries..]);
-    clear_densities(&mut densities[entries..]);
-    DensitiesAdded::Added { entries }
+    clear(&mut zuniqs[entries..], 0);
+    clear(&mut densities[entries..], 0.0);
+    Ok(entries)
 }
 
-// All that can be refused before the overlay is walked, in the order of the table.
-fn check(
+// All that can be refused before the overlay is walked, in the order of the table; the protected parents
+// where nothing is.
+#[tactic(auto, unfolding(combine::specs::Pool::product_input_refusal, combine::specs::Pool::maps_refusal, combine::specs::Pool::map_densities_refusal))]
+fn check<'a>(
     left_depth: u8,
     left_zuniqs: &[u64],
     left_densities: &[f64],
@@ -139,63 +112,43 @@ fn check(
     depth_threshold: u8,
     chi2_threshold: f64,
     k: f64,
-    protected: &[u64],
+    protected: &'a [u64],
     places: usize,
     values: usize,
-) -> Check
-    ensures { result ≡ check_of (product_input_refusal protected.now (record { depth = left_depth; zuniqs = left_zuniqs.now; values = left_densities.now }) (record { depth = right_depth; zuniqs = right_zuniqs.now; values = right_densities.now }) depth_threshold chi2_threshold k places values) }
+) -> Result<Protected<'a, u64>, Refusal>
+    ensures { MatchResult result (λ p. (p.zuniqs.now ≡ protected.now) × (product_input_refusal protected.now (record { depth = left_depth; zuniqs = left_zuniqs.now; values = left_densities.now }) (record { depth = right_depth; zuniqs = right_zuniqs.now; values = right_densities.now }) depth_threshold chi2_threshold k places values ≡ none)) (λ r. product_input_refusal protected.now (record { depth = left_depth; zuniqs = left_zuniqs.now; values = left_densities.now }) (record { depth = right_depth; zuniqs = right_zuniqs.now; values = right_densities.now }) depth_threshold chi2_threshold k places values ≡ some r) }
 {
-    if let Check::Refused(refusal) = check_settings(
-        left_depth,
-        right_depth,
-        depth_threshold,
-        chi2_threshold,
-    ) {
-        return Check::Refused(refusal);
-    }
-    if let Check::Refused(refusal) = check_factor(k) {
-        return Check::Refused(refusal);
-    }
-    if let Check::Refused(refusal) = check_protected(protected) {
-        return Check::Refused(refusal);
-    }
-    if let Check::Refused(refusal) = check_pairs(
+    check_settings(left_depth, right_depth, depth_threshold, chi2_threshold)?;
+    check_factor(k)?;
+    let protected = Protected::check(protected)?;
+    check_pairs(
         left_zuniqs.len(),
         left_densities.len(),
         right_zuniqs.len(),
         right_densities.len(),
         places,
         values,
-    ) {
-        return Check::Refused(refusal);
-    }
-    if let Check::Refused(refusal) = check_maps(
-        left_depth,
-        left_zuniqs,
-        right_depth,
-        right_zuniqs,
-    ) {
-        return Check::Refused(refusal);
-    }
-    check_both(left_densities, right_densities)
+    )?;
+    check_maps(left_depth, left_zuniqs, right_depth, right_zuniqs)?;
+    check_both(left_densities, right_densities)?;
+    Ok(protected)
 }
 
 // Row 3, of the factor.
-fn check_factor(k: f64) -> Check
+#[tactic(auto, unfolding(combine::specs::Pool::factor_refusal))]
+fn check_factor(k: f64) -> Result<(), Refusal>
     ensures { result ≡ check_of (factor_refusal k) }
 {
     if invalid_density(k) {
-        return Check::Refused(Refusal::InvalidFactor);
+        return Err(Refusal::InvalidFactor);
     }
-    Check::Passed
+    Ok(())
 }
 
 // Row 6: the left map before the right one.
-fn check_both(left: &[f64], right: &[f64]) -> Check
+fn check_both(left: &[f64], right: &[f64]) -> Result<(), Refusal>
     ensures { result ≡ check_of (or_else (density_refusal 0 left.now) (density_refusal 0 right.now)) }
 {
-    if let Check::Refused(refusal) = check_densities(left) {
-        return Check::Refused(refusal);
-    }
+    check_densities(left)?;
     check_densities(right)
 }

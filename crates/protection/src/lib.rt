@@ -2,59 +2,56 @@
 //
 // They come as a rising list of zuniqs, lent as a slice; entries may lie inside one another. A merging
 // call checks its list once, and asks for a parent only where its children would otherwise be merged.
-// `narrow_list` has the same for u32 zuniqs.
 //
 // Refused: a listed value that is not a valid zuniq, or not above the one before (number 15, place: its
 // index).
 #![tactic(auto)]
 
 ghost use Rattle.std.specs.Prelude.{◌≡◌, ◌≤◌, ◌<◌};
-ghost use Rattle.refusal.specs.Checks.{check_of};
-ghost use Rattle.zuniq.specs.Cells.{n_hash};
-ghost use Rattle.protection.specs.Protected.{is_listed, is_protected, RisingList, protected_refusal};
+ghost use Rattle.protection.specs.Protected.{RisingList};
 
-use lookup::lower_bound;
-use refusal::{Check, Refusal};
-use zuniq::{Decoded, Zuniq64};
+use refusal::Refusal;
+use zuniq::{Decoded, ZUniqHashT};
 
-pub mod narrow_list;
+// A list of protected parents that has been checked, or one that is known to rise.
+#[derive(Drop)]
+pub struct Protected<'a, Z: ZUniqHashT> {
+    pub zuniqs: &'a [Z],
+    pub ghost rising: { RisingList (Z.numbers zuniqs.now) },
+}
 
-// Row 15. Every zuniq is above 0, so that the first has one before it too.
-pub fn check_protected(protected: &[u64]) -> Check
-    ensures { result ≡ check_of (protected_refusal 29 protected.now) }
-{
-    let mut before = 0;
-    let mut i = 0;
-    while i < protected.len() {
-        let zuniq = protected[i];
-        let Decoded::Cell(_) = Zuniq64::from_zuniq(zuniq) else {
-            return Check::Refused(Refusal::InvalidProtected(i));
-        };
-        if zuniq <= before {
-            return Check::Refused(Refusal::InvalidProtected(i));
+impl<'a, Z: ZUniqHashT> Protected<'a, Z> {
+    ghost use Rattle.std.specs.Result.{MatchResult};
+    ghost use Rattle.std.proofs.Math.Option.{none, some};
+    ghost use Rattle.zuniq.specs.Cells.{n_hash};
+    ghost use Rattle.protection.specs.Protected.{is_protected, protected_refusal};
+
+    // Row 15. Every zuniq is above 0, so that the first has one before it too.
+    pub fn check(zuniqs: &'a [Z]) -> Result<Protected<'a, Z>, Refusal>
+        ensures { MatchResult result (λ p. (p.zuniqs.now ≡ zuniqs.now) × (protected_refusal Z.MAX_DEPTH (Z.numbers zuniqs.now) ≡ none)) (λ r. protected_refusal Z.MAX_DEPTH (Z.numbers zuniqs.now) ≡ some r) }
+    {
+        let mut before = 0;
+        for (i, zuniq) in zuniqs.iter().enumerate() {
+            let Decoded::Cell(_) = Z::from_zuniq(*zuniq) else {
+                return Err(Refusal::InvalidProtected(i));
+            };
+            let number = zuniq.as_u64();
+            if number <= before {
+                return Err(Refusal::InvalidProtected(i));
+            }
+            before = number;
         }
-        before = zuniq;
-        i += 1;
+        Ok(Protected { zuniqs })
     }
-    Check::Passed
-}
 
-// Whether a cell is one of the protected parents.
-pub fn is_protected(protected: &[u64], depth: u8, hash: u64) -> bool
-    requires { RisingList protected.now × (depth ≤ 29) × (hash < n_hash depth) }
-    ensures { result ≡ is_protected 29 protected.now depth hash }
-{
-    is_listed(protected, Zuniq64::to_zuniq_unchecked(depth, hash))
-}
-
-// Whether a value is in a list that rises: then it stands behind all that are below it.
-fn is_listed(zuniqs: &[u64], zuniq: u64) -> bool
-    requires { RisingList zuniqs.now }
-    ensures { result ≡ is_listed zuniqs.now «zuniq» }
-{
-    let place = lower_bound(zuniqs, zuniq);
-    if place >= zuniqs.len() {
-        return false;
+    // Whether a cell is one of the protected parents.
+    pub fn contains(&self, depth: u8, hash: u64) -> bool
+        requires { (depth ≤ Z.MAX_DEPTH) × (hash < n_hash depth) }
+        ensures { result ≡ is_protected Z.MAX_DEPTH (Z.numbers self.now.zuniqs.now) depth hash }
+    {
+        let number = Z::to_zuniq_unchecked(depth, hash).as_u64();
+        self.zuniqs
+            .binary_search_by_key(&number, |zuniq| zuniq.as_u64())
+            .is_ok()
     }
-    zuniqs[place] == zuniq
 }

@@ -4,25 +4,35 @@ use mathlib.Core.Bool.{Bool, true, false}
 use mathlib.Core.Option.{Option, none, some}
 use Prim.Native.Nat.{ℕ}
 use native.Mathlib.Omega.{arith}
+use Rattle.std.specs.Prelude.{Result, Ok, Err}
 use Rattle.refusal.specs.declared.Refusal.{Refusal}
-use Rattle.refusal.specs.declared.Check.{Check}
-use Rattle.refusal.specs.Checks.{or_else, refused_if, check_of}
+use Rattle.refusal.specs.Checks.{or_else, refused_if, ok_unless}
 
-pub check_passed : (o : Option Refusal) → Check.Passed ≡ check_of o → o ≡ none
-check_passed none e = refl
-check_passed (some r) e = let z : ◌≡◌ {A = ℕ} 0 1 = cc in absurd (omega arith)
+-- Where there is an answer, nothing was refused,
+pub none_of_ok : {X : Type 0} (o : Option Refusal) (x y : X) → ok_unless o x ≡ Ok y → o ≡ none
+none_of_ok none x y e = refl
+none_of_ok (some r) x y e = let z : ◌≡◌ {A = ℕ} 0 1 = cc in absurd (omega arith)
 
-pub check_refused : (o : Option Refusal) (r : Refusal) → Check.Refused r ≡ check_of o → o ≡ some r
-check_refused none r e = let z : ◌≡◌ {A = ℕ} 0 1 = cc in absurd (omega arith)
-check_refused (some s) r e = cc
+-- and that is the answer,
+pub ok_is : {X : Type 0} (o : Option Refusal) (x y : X) → ok_unless o x ≡ Ok y → x ≡ y
+ok_is none x y e = cc
+ok_is (some r) x y e = let z : ◌≡◌ {A = ℕ} 0 1 = cc in absurd (omega arith)
+
+pub passed_of_ok : {X : Type 0} (o : Option Refusal) (x y : X) → ok_unless o x ≡ Ok y → (o ≡ none) × (x ≡ y)
+passed_of_ok o x y e = (none_of_ok o x y e, ok_is o x y e)
+
+-- and a refusal is the one that was found.
+pub some_of_err : {X : Type 0} (o : Option Refusal) (x : X) (r : Refusal) → ok_unless o x ≡ Err r → o ≡ some r
+some_of_err none x r e = let z : ◌≡◌ {A = ℕ} 0 1 = cc in absurd (omega arith)
+some_of_err (some s) x r e = cc
 
 -- A check that passes leaves it to the later ones,
-pub passes : {x : Check} (o p : Option Refusal) → x ≡ check_of o → x ≡ Check.Passed → or_else o p ≡ p
-passes o p e q = rw (check_passed o (sym q ∙ e)) refl
+pub passes : {X : Type 0} {a : Result X Refusal} {y : X} (x : X) (o p : Option Refusal) → a ≡ ok_unless o x → a ≡ Ok y → or_else o p ≡ p
+passes x o p e q = rw (none_of_ok o x _ (sym e ∙ q)) refl
 
 -- and one that refuses settles it.
-pub refuses : {x : Check} {q : Refusal} (o p : Option Refusal) → x ≡ check_of o → x ≡ Check.Refused q → or_else o p ≡ some q
-refuses {q = q} o p e k = rw (check_refused o q (sym k ∙ e)) refl
+pub refuses : {X : Type 0} {a : Result X Refusal} {r : Refusal} (x : X) (o p : Option Refusal) → a ≡ ok_unless o x → a ≡ Err r → or_else o p ≡ some r
+refuses x o p e k = rw (some_of_err o x _ (sym e ∙ k)) refl
 
 -- Of two refusals in order there is none exactly if neither is.
 pub or_else_none : (a b : Option Refusal) → or_else a b ≡ none → (a ≡ none) × (b ≡ none)

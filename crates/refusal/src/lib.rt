@@ -8,7 +8,7 @@ ghost use Rattle.refusal.specs.Refusals.{number_of, place_of};
 // A case for each thing that can be wrong, in checking order. A case that has a place holds it:
 // the parent of a list, the entry of a map, the range of a coverage, the cell of a batch, the child of a
 // merger's four, the query of a test's two.
-#[derive(Clone, Copy)]
+#[derive(Clone, Copy, Debug, PartialEq, Eq)]
 pub enum Refusal {
     // The depth is over the largest, or a merger's parent depth is the largest.
     DepthOutOfRange,
@@ -47,13 +47,6 @@ pub enum Refusal {
     NoSpace,
     // This query is not a valid zuniq or not at the depth asked for.
     InvalidQuery(usize),
-}
-
-// Whether a call passes a check.
-#[derive(Clone, Copy)]
-pub enum Check {
-    Passed,
-    Refused(Refusal),
 }
 
 impl Refusal {

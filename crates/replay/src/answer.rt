@@ -1,122 +1,86 @@
-// What a call answered, as numbers.
-use crate::floats::pattern_of;
-use crate::line::MOST;
-use refusal::Refusal;
+// What a call answered.
+use crate::error::Error;
+use crate::number::{Number, Value};
+use std::alloc::Global;
+use std::fmt;
 
-// The case of an answer.
-#[derive(Clone, Copy)]
-pub enum Said {
-    // The numbers given are no arguments of the call: one is missing, or too large for its field.
-    Unreadable,
-    // The refusal's number and place.
-    Refused,
-    // That there is none.
-    Nothing,
-    // What the call is asked for.
-    Values,
-    // 1 and the merged value, 0 and the chi-square of four that are kept.
-    Merged,
-    Kept,
-    // 0 for a valid map, and 1 to 4 with the faulty place for the check's four faults.
-    Valid,
-    NotZuniq,
-    TooDeep,
-    NotAbove,
-    Overlapping,
-}
-
-#[derive(Clone, Copy)]
+#[derive(Drop)]
 pub struct Answer {
-    pub said: Said,
-    // `count` numbers, and 0 in the places after them; of the longest answers the first MOST.
-    pub numbers: [u64; MOST],
-    pub count: usize,
-    // The numbers from this place on are patterns of f64s.
-    pub floats: usize,
-    // How many of the numbers given are the call's arguments.
-    pub arguments: usize,
+    // The word that is printed in place of the first value, which is the case's number.
+    case: Option<&'static str>,
+    values: Vec<Value>,
 }
 
 impl Answer {
-    // An answer with no numbers yet.
-    pub(crate) fn new(said: Said, arguments: usize) -> Self {
+    // An answer with no values yet.
+    pub fn new(alloc: Global) -> Self {
         Self {
-            said,
-            numbers: [0u64; MOST],
-            count: 0,
-            floats: MOST,
-            arguments,
+            case: None,
+            values: Vec::new(alloc),
         }
     }
 
-    pub(crate) fn unreadable() -> Self {
-        Self::new(Said::Unreadable, 0)
-    }
-
-    pub(crate) fn values(arguments: usize) -> Self {
-        Self::new(Said::Values, arguments)
-    }
-
-    pub(crate) fn refused(refusal: Refusal, arguments: usize) -> Self {
-        let answer = Self::new(Said::Refused, arguments).with(refusal.number() as u64);
-        answer.with(refusal.place() as u64)
-    }
-
-    // The answer with one number more.
-    pub(crate) fn with(mut self, number: u64) -> Self {
-        let count = self.count;
-        if count < MOST {
-            self.numbers[count] = number;
-            self.count = count + 1;
+    // That there is none.
+    pub fn none(alloc: Global) -> Self {
+        Self {
+            case: Some("none"),
+            values: Vec::new(alloc),
         }
-        self
     }
 
-    // The answer with f64s behind the numbers that it has.
-    pub(crate) fn with_float(mut self, x: f64) -> Self {
-        self.floats = self.count;
-        self.with(pattern_of(x))
+    // A case: its word where it is printed, its number where it is stored.
+    pub fn case(alloc: Global, word: &'static str, number: u64) -> Result<Self, Error> {
+        let answer = Self {
+            case: Some(word),
+            values: Vec::new(alloc),
+        };
+        answer.with(number)
     }
 
-    // The answer with one list more.
-    pub(crate) fn with_longs(self, items: &[u64]) -> Self {
-        let mut answer = self.with(items.len() as u64);
-        for i in 0..items.len() {
-            answer = answer.with(items[i]);
+    // What there is, or that there is none.
+    pub fn option<T: Number>(alloc: Global, value: Option<T>) -> Result<Self, Error> {
+        match value {
+            Some(value) => Self::new(alloc).with(value),
+            None => Ok(Self::none(alloc)),
         }
-        answer
     }
 
-    pub(crate) fn with_counts(self, items: &[u32]) -> Self {
-        let mut answer = self.with(items.len() as u64);
-        for i in 0..items.len() {
-            answer = answer.with_count(items[i]);
+    // The answer with one value more.
+    pub fn with<T: Number>(mut self, value: T) -> Result<Self, Error> {
+        self.values.push(value.value())?;
+        Ok(self)
+    }
+
+    // The answer with one list more: its length and its items.
+    pub fn with_list<T: Number>(self, items: &[T]) -> Result<Self, Error> {
+        let mut answer = self.with(items.len())?;
+        for item in items {
+            answer = answer.with(*item)?;
         }
-        answer
+        Ok(answer)
     }
 
-    pub(crate) fn with_bytes(self, items: &[u8]) -> Self {
-        let mut answer = self.with(items.len() as u64);
-        for i in 0..items.len() {
-            answer = answer.with_byte(items[i]);
+    // Whether a line has stored these values, and no others.
+    pub fn is_stored(&self, numbers: &[u64]) -> bool {
+        self.values
+            .iter()
+            .map(|value| value.number())
+            .eq(numbers.iter().copied())
+    }
+}
+
+impl fmt::Display for Answer {
+    fn fmt<W: fmt::Write>(&self, f: &mut fmt::Formatter<W>) -> fmt::Result {
+        let mut values = self.values.iter();
+        let first = values.next();
+        match (self.case, first) {
+            (Some(case), _) => f.write_str(case)?,
+            (None, Some(first)) => write!(f, "{first}")?,
+            (None, None) => {}
         }
-        answer
-    }
-
-    pub(crate) fn with_floats(self, items: &[f64]) -> Self {
-        let mut answer = self.with(items.len() as u64);
-        answer.floats = answer.count;
-        for i in 0..items.len() {
-            answer = answer.with(pattern_of(items[i]));
+        for value in values {
+            write!(f, " {value}")?;
         }
-        answer
-    }
-
-    pub(crate) fn with_count(self, count: u32) -> Self {
-        self.with(count as u64)
-    }
-
-    pub(crate) fn with_byte(self, byte: u8) -> Self {
-        self.with(byte as u64)
+        Ok(())
     }
 }

@@ -1,173 +1,143 @@
-// Section 5: the product; `pooling` has the pool. The arguments are read in three steps: the left map,
-// the right map, and the rest with the output.
-ghost use Rattle.std.specs.Prelude.{◌≤◌};
-
+// Section 5: pooling, in one call or asked before done (note 8 of document 02), and the product.
 use crate::answer::Answer;
-use crate::arguments::{MAX_BYTE, MAX_LONG, byte_of, floats_of, list_at};
-use crate::building::densities_added;
-use crate::floats::float_of;
+use crate::arguments::Arguments;
+use crate::error::Error;
+use crate::number::Number;
+use build::counts::Added;
+use combine::counts::Figures;
 
-// M, T and k, which a pool has no use for, and the place in the line behind them.
-#[derive(Clone, Copy)]
-pub struct Settings {
-    pub depth_threshold: u8,
-    pub chi2_threshold: f64,
-    pub k: f64,
-    pub next: usize,
+// A map, with its depth.
+#[derive(Drop)]
+struct Map<V> {
+    depth: u8,
+    zuniqs: Vec<u64>,
+    values: Vec<V>,
 }
 
-#[derive(Clone, Copy)]
-pub enum Read {
-    Settings(Settings),
-    Unreadable,
+impl<V: Number> Map<V> {
+    fn read(arguments: &mut Arguments<'_>) -> Result<Self, Error> {
+        Ok(Self {
+            depth: arguments.number()?,
+            zuniqs: arguments.list()?,
+            values: arguments.list()?,
+        })
+    }
 }
 
-// M, T and, where there are three, k stand from `at` on.
-pub(crate) fn settings_at(numbers: &[u64], at: usize, len: usize) -> Read
-    requires { 2 ≤ len }
-{
-    if at >= numbers.len() {
-        return Read::Unreadable;
-    }
-    if numbers.len() - at < len {
-        return Read::Unreadable;
-    }
-    if numbers[at] > MAX_BYTE {
-        return Read::Unreadable;
-    }
-    Read::Settings(Settings {
-        depth_threshold: byte_of(numbers[at]),
-        chi2_threshold: float_of(numbers[at + 1]),
-        k: float_of(numbers[at + len - 1]),
-        next: at + len,
-    })
+// What pool, ask and commit begin with: two maps, M and T, and the protected parents.
+#[derive(Drop)]
+struct Pooling {
+    left: Map<u32>,
+    right: Map<u32>,
+    depth_threshold: u8,
+    chi2_threshold: f64,
+    protected: Vec<u64>,
 }
 
-pub(crate) fn product(numbers: &[u64]) -> Answer {
-    if numbers.len() < 1 {
-        return Answer::unreadable();
+impl Pooling {
+    fn read(arguments: &mut Arguments<'_>) -> Result<Self, Error> {
+        Ok(Self {
+            left: Map::read(arguments)?,
+            right: Map::read(arguments)?,
+            depth_threshold: arguments.number()?,
+            chi2_threshold: arguments.number()?,
+            protected: arguments.list()?,
+        })
     }
-    let depth = numbers[0];
-    if depth > MAX_BYTE {
-        return Answer::unreadable();
-    }
-    let left = list_at(numbers, 1, MAX_LONG);
-    let left_densities = list_at(numbers, left.next, MAX_LONG);
-    let zuniqs = left.items;
-    let len = left.len;
-    let values = floats_of(left_densities);
-    let densities = values.items;
-    let n = values.len;
-    product_with(
-        byte_of(depth),
-        &zuniqs[..len],
-        &densities[..n],
-        numbers,
-        left_densities.next,
-    )
 }
 
-// The right map stands from `at` on.
-fn product_with(
-    left_depth: u8,
-    left_zuniqs: &[u64],
-    left_densities: &[f64],
-    numbers: &[u64],
-    at: usize,
-) -> Answer {
-    if at >= numbers.len() {
-        return Answer::unreadable();
-    }
-    let depth = numbers[at];
-    if depth > MAX_BYTE {
-        return Answer::unreadable();
-    }
-    let right = list_at(numbers, at + 1, MAX_LONG);
-    let right_densities = list_at(numbers, right.next, MAX_LONG);
-    let zuniqs = right.items;
-    let len = right.len;
-    let values = floats_of(right_densities);
-    let densities = values.items;
-    let n = values.len;
-    product_into(
-        left_depth,
-        left_zuniqs,
-        left_densities,
-        byte_of(depth),
-        &zuniqs[..len],
-        &densities[..n],
-        numbers,
-        right_densities.next,
-    )
+pub fn pool(arguments: &mut Arguments<'_>) -> Result<Answer, Error> {
+    let call = Pooling::read(arguments)?;
+    let mut zuniqs = arguments.list()?;
+    let mut counts = arguments.list()?;
+    let added = pool::pool(
+        call.left.depth,
+        &call.left.zuniqs,
+        &call.left.values,
+        call.right.depth,
+        &call.right.zuniqs,
+        &call.right.values,
+        call.depth_threshold,
+        call.chi2_threshold,
+        &call.protected,
+        &mut zuniqs,
+        &mut counts,
+    )?;
+    pooled(Answer::new(arguments.alloc), added, &zuniqs, &counts)
 }
 
-// M, T, k, the protected parents and the output stand from `at` on.
-fn product_into(
-    left_depth: u8,
-    left_zuniqs: &[u64],
-    left_densities: &[f64],
-    right_depth: u8,
-    right_zuniqs: &[u64],
-    right_densities: &[f64],
-    numbers: &[u64],
-    at: usize,
-) -> Answer {
-    let Read::Settings(settings) = settings_at(numbers, at, 3) else {
-        return Answer::unreadable();
+pub fn ask(arguments: &mut Arguments<'_>) -> Result<Answer, Error> {
+    let call = Pooling::read(arguments)?;
+    let figures = ask::ask(
+        call.left.depth,
+        &call.left.zuniqs,
+        &call.left.values,
+        call.right.depth,
+        &call.right.zuniqs,
+        &call.right.values,
+        call.depth_threshold,
+        call.chi2_threshold,
+        &call.protected,
+    )?;
+    let answer = Answer::new(arguments.alloc).with(figures.cells)?;
+    answer.with(figures.entries)?.with(figures.total)
+}
+
+pub fn commit(arguments: &mut Arguments<'_>) -> Result<Answer, Error> {
+    let call = Pooling::read(arguments)?;
+    let figures = Figures {
+        cells: arguments.number()?,
+        entries: arguments.number()?,
+        total: arguments.number()?,
     };
-    let listed = list_at(numbers, settings.next, MAX_LONG);
-    let output = list_at(numbers, listed.next, MAX_LONG);
-    let output_densities = list_at(numbers, output.next, MAX_LONG);
-    if output_densities.next > numbers.len() {
-        return Answer::unreadable();
-    }
-    let protected = listed.items;
-    let mut zuniqs = output.items;
-    let len = output.len;
-    let values = floats_of(output_densities);
-    let mut densities = values.items;
-    let n = values.len;
-    multiplied(
-        left_depth,
-        left_zuniqs,
-        left_densities,
-        right_depth,
-        right_zuniqs,
-        right_densities,
-        settings,
-        &protected[..listed.len],
-        &mut zuniqs[..len],
-        &mut densities[..n],
-        output_densities.next,
-    )
+    let mut zuniqs = arguments.list()?;
+    let mut counts = arguments.list()?;
+    let added = ask::commit(
+        call.left.depth,
+        &call.left.zuniqs,
+        &call.left.values,
+        call.right.depth,
+        &call.right.zuniqs,
+        &call.right.values,
+        call.depth_threshold,
+        call.chi2_threshold,
+        &call.protected,
+        figures,
+        &mut zuniqs,
+        &mut counts,
+    )?;
+    pooled(Answer::new(arguments.alloc), added, &zuniqs, &counts)
 }
 
-fn multiplied(
-    left_depth: u8,
-    left_zuniqs: &[u64],
-    left_densities: &[f64],
-    right_depth: u8,
-    right_zuniqs: &[u64],
-    right_densities: &[f64],
-    settings: Settings,
-    protected: &[u64],
-    zuniqs: &mut [u64],
-    densities: &mut [f64],
-    arguments: usize,
-) -> Answer {
-    let added = product::product(
-        left_depth,
-        left_zuniqs,
-        left_densities,
-        right_depth,
-        right_zuniqs,
-        right_densities,
-        settings.depth_threshold,
-        settings.chi2_threshold,
-        settings.k,
-        protected,
-        zuniqs,
-        densities,
-    );
-    densities_added(added, zuniqs, densities, arguments)
+// The entries and the total of a pool, with both buffers as it left them.
+fn pooled(answer: Answer, added: Added, zuniqs: &[u64], counts: &[u32]) -> Result<Answer, Error> {
+    let answer = answer.with(added.entries)?.with(added.total)?;
+    answer.with_list(zuniqs)?.with_list(counts)
+}
+
+pub fn product(arguments: &mut Arguments<'_>) -> Result<Answer, Error> {
+    let left = Map::read(arguments)?;
+    let right = Map::read(arguments)?;
+    let depth_threshold = arguments.number()?;
+    let chi2_threshold = arguments.number()?;
+    let k = arguments.number()?;
+    let protected = arguments.list()?;
+    let mut zuniqs = arguments.list()?;
+    let mut densities = arguments.list()?;
+    let entries = product::product(
+        left.depth,
+        &left.zuniqs,
+        &left.values,
+        right.depth,
+        &right.zuniqs,
+        &right.values,
+        depth_threshold,
+        chi2_threshold,
+        k,
+        &protected,
+        &mut zuniqs,
+        &mut densities,
+    )?;
+    let answer = Answer::new(arguments.alloc).with(entries)?;
+    answer.with_list(&zuniqs)?.with_list(&densities)
 }

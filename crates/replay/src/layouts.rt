@@ -1,75 +1,46 @@
-// Rows laid out by byte column, note 3 of document 02, and the way back.
+// Section 7: rows, of counts, of densities and of narrow maps, read and written; and rows laid out by byte
+// column, note 3 of document 02, and the way back. Each call fills the buffers that it is lent.
 use crate::answer::Answer;
-use crate::arguments::{MAX_BYTE, bytes_of, list_at};
-use crate::writing::written_rows;
-use columns::{columns_to_rows as take_back, rows_to_columns as lay_out};
+use crate::arguments::Arguments;
+use crate::error::Error;
+use crate::number::Number;
+use refusal::Refusal;
+use rows::little_endian::LittleEndian;
 
-pub(crate) fn rows_to_columns(numbers: &[u64]) -> Answer {
-    if numbers.len() < 1 {
-        return Answer::unreadable();
-    }
-    let row_size = numbers[0];
-    let from = list_at(numbers, 1, MAX_BYTE);
-    let to = list_at(numbers, from.next, MAX_BYTE);
-    let end = to.next;
-    if end > numbers.len() {
-        return Answer::unreadable();
-    }
-    let input = bytes_of(from);
-    let rows = input.items;
-    let n_bytes = input.len;
-    let output = bytes_of(to);
-    let mut columns = output.items;
-    let places = output.len;
-    rows_to_columns_into(
-        row_size as usize,
-        &rows[..n_bytes],
-        &mut columns[..places],
-        end,
-    )
+pub fn read_rows<Z, V>(arguments: &mut Arguments<'_>) -> Result<Answer, Error>
+where
+    Z: Number + LittleEndian,
+    V: Number + LittleEndian,
+{
+    let bytes = arguments.list::<u8>()?;
+    let mut zuniqs = arguments.list::<Z>()?;
+    let mut values = arguments.list::<V>()?;
+    let rows = rows::read_rows(&bytes, &mut zuniqs, &mut values)?;
+    let answer = Answer::new(arguments.alloc).with(rows)?;
+    answer.with_list(&zuniqs)?.with_list(&values)
 }
 
-fn rows_to_columns_into(
-    row_size: usize,
-    rows: &[u8],
-    columns: &mut [u8],
-    arguments: usize,
-) -> Answer {
-    let laid = lay_out(row_size, rows, columns);
-    written_rows(laid, columns, arguments)
+pub fn write_rows<Z, V>(arguments: &mut Arguments<'_>) -> Result<Answer, Error>
+where
+    Z: Number + LittleEndian,
+    V: Number + LittleEndian,
+{
+    let zuniqs = arguments.list::<Z>()?;
+    let values = arguments.list::<V>()?;
+    let mut bytes = arguments.list::<u8>()?;
+    let rows = rows::write_rows(&zuniqs, &values, &mut bytes)?;
+    Answer::new(arguments.alloc).with(rows)?.with_list(&bytes)
 }
 
-pub(crate) fn columns_to_rows(numbers: &[u64]) -> Answer {
-    if numbers.len() < 1 {
-        return Answer::unreadable();
-    }
-    let row_size = numbers[0];
-    let from = list_at(numbers, 1, MAX_BYTE);
-    let to = list_at(numbers, from.next, MAX_BYTE);
-    let end = to.next;
-    if end > numbers.len() {
-        return Answer::unreadable();
-    }
-    let input = bytes_of(from);
-    let columns = input.items;
-    let n_bytes = input.len;
-    let output = bytes_of(to);
-    let mut rows = output.items;
-    let places = output.len;
-    columns_to_rows_into(
-        row_size as usize,
-        &columns[..n_bytes],
-        &mut rows[..places],
-        end,
-    )
-}
-
-fn columns_to_rows_into(
-    row_size: usize,
-    columns: &[u8],
-    rows: &mut [u8],
-    arguments: usize,
-) -> Answer {
-    let taken = take_back(row_size, columns, rows);
-    written_rows(taken, rows, arguments)
+// Lays rows out by column, or columns by row.
+pub fn lay_out<F>(arguments: &mut Arguments<'_>, lay: F) -> Result<Answer, Error>
+where
+    F: FnOnce(usize, &[u8], &mut [u8]) -> Result<usize, Refusal>,
+    requires { F.IsAlwaysCallable lay }
+{
+    let row_size = arguments.number()?;
+    let from = arguments.list::<u8>()?;
+    let mut to = arguments.list::<u8>()?;
+    let rows = lay(row_size, &from, &mut to)?;
+    Answer::new(arguments.alloc).with(rows)?.with_list(&to)
 }

@@ -16,12 +16,13 @@
 // - Any other has the numbers that the original Rust answered behind the arguments.
 //
 // Unreadable is a line with an unknown word or a foreign byte, with an argument too few or too large
-// for its field, or without LF. An input of 327,680 bytes or more is not replayed at all. Nor is one
-// where a read fails, and where a write fails the program ends with that error.
+// for its field, with more than 128 numbers or a list of more than 48, or without LF. An input of 327,680
+// bytes or more is not replayed at all. Nor is one where a read fails, and where a write fails or memory
+// runs out the program ends with that error.
 #![tactic(auto)]
 
-ghost use Rattle.std.specs.Prelude.{◌≤◌, length};
-ghost use Rattle.std.specs.Io.{ReadsAtMost};
+ghost use Rattle.std.specs.Prelude.{◌≡◌, take, IfOk, IfSome};
+ghost use Rattle.replay.specs.declared.TheConstants.{MAX_INPUT};
 
 mod answer;
 mod arguments;
@@ -29,32 +30,22 @@ mod building;
 mod call;
 mod cells;
 mod combining;
-mod compare;
-mod densities;
-mod floats;
+mod error;
 mod kind;
 mod layouts;
 mod line;
 mod maps;
-mod mergers;
-mod narrow_cells;
-mod narrow_maps;
-mod narrow_overlapped;
-mod narrow_rows;
-mod overlapped;
-mod pooling;
-mod print;
+mod number;
 mod reach;
-mod reading;
 mod tallying;
-mod widths;
-mod writing;
 
 use answer::Answer;
+use arguments::Arguments;
 use call::call;
-use kind::Named;
-use line::{find, read};
-use print::print_answer;
+use error::Error;
+use kind::Kind;
+use line::Line;
+use std::alloc::Global;
 use std::io;
 use std::io::Read;
 use tallying::Tally;
@@ -63,111 +54,91 @@ use tallying::Tally;
 const MAX_INPUT: usize = 327_680;
 
 fn main(rt: HostRuntime) -> io::Result<()> {
-    let mut buffer = [0u8; MAX_INPUT];
-    let length = read_full(&mut rt.stdin(), &mut buffer)?;
-    // A full buffer may hold no more than the start of the input.
-    if length == buffer.len() {
+    let text = read_input(rt.alloc(), rt.stdin())?;
+    // What fills the limit may be no more than the start of the input.
+    if text.len() == MAX_INPUT {
         return rt.println("the input is too long");
     }
-    let tally = replay(&rt, &buffer[..length])?;
-    tally.print(&rt)
+    let tally = replay(&rt, &text)?;
+    print!(rt; "{tally}")
 }
 
-// Reads until the buffer is full or the input ends, and answers how many bytes that was.
-fn read_full<R: Read>(reader: &mut R, buffer: &mut [u8]) -> io::Result<usize>
-    ensures { ReadsAtMost result buffer.new }
+// Reads until the input or the limit ends.
+fn read_input<R: Read + Drop>(alloc: Global, reader: R) -> io::Result<Vec<u8>>
+    ensures { IfOk result (λ text. IfSome (R.remaining reader) (λ xs. text.items ≡ take MAX_INPUT xs)) }
 {
-    let mut n = 0;
-    while n < buffer.len() {
-        let bytes = reader.read(&mut buffer[n..])?;
-        if bytes == 0 {
-            break;
-        }
-        n += bytes;
-    }
-    Ok(n)
+    let mut text = Vec::new(alloc);
+    reader.take(MAX_INPUT as u64).read_to_end(&mut text)?;
+    Ok(text)
 }
 
 // The tally of all lines.
-fn replay(rt: &impl Print, text: &[u8]) -> io::Result<Tally> {
-    let mut tally = Tally::new();
-    let mut number: u64 = 0;
-    let mut at = 0;
-    while at < text.len() {
-        number += 1;
-        let end = find(text, at, b'\n');
-        tally = with_line(rt, tally, number, text, at, end)?;
-        at = end + 1;
+fn replay(rt: &(impl Print + AllocGlobal), text: &[u8]) -> io::Result<Tally> {
+    let mut tally = Tally::new(rt.alloc());
+    let lines = text.split_inclusive(|byte| *byte == b'\n');
+    for (line, number) in lines.zip(1..=u64::MAX) {
+        // A line that no LF ends may have lost digits, and is unreadable whatever it holds.
+        match line.strip_suffix(b"\n") {
+            Some(line) => replay_line(rt, &mut tally, number, line)?,
+            None => tally.add_unreadable(number),
+        }
     }
     Ok(tally)
 }
 
-// The tally with the line that stands from `at` to `end`. One that no LF ends may have lost digits,
-// and is unreadable whatever it holds.
-fn with_line(
-    rt: &impl Print,
-    tally: Tally,
+fn replay_line(
+    rt: &(impl Print + AllocGlobal),
+    tally: &mut Tally,
     number: u64,
-    text: &[u8],
-    at: usize,
-    end: usize,
-) -> io::Result<Tally>
-    requires { (at ≤ end) × (end ≤ length text.now) }
-{
-    if end == text.len() {
-        return Ok(tally.with_unreadable(number));
+    line: &[u8],
+) -> io::Result<()> {
+    match line {
+        [] | [b'#', ..] | [b'?'] => {
+            rt.write_all(line)?;
+            rt.write_all(b"\n")
+        }
+        [b'?', _, asked @ ..] => print_asked(rt, asked),
+        _ => add_stored(rt.alloc(), tally, number, line),
     }
-    if at == end || text[at] == b'#' {
-        print_line(rt, &text[at..end])?;
-        return Ok(tally);
-    }
-    if text[at] == b'?' {
-        print_asked(rt, &text[at..end])?;
-        return Ok(tally);
-    }
-    Ok(with_stored(tally, number, &text[at..end]))
 }
 
-fn print_line(rt: &impl Print, line: &[u8]) -> io::Result<()> {
-    rt.write_all(line)?;
-    rt.write_all(b"\n")
-}
-
-// The call behind the question mark, and its answer.
-fn print_asked(rt: &impl Print, line: &[u8]) -> io::Result<()> {
-    if line.len() < 2 {
-        return print_line(rt, line);
+// A call that is asked for by its arguments alone, and its answer.
+fn print_asked(rt: &(impl Print + AllocGlobal), text: &[u8]) -> io::Result<()> {
+    rt.write_all(text)?;
+    match answer_to(rt.alloc(), text) {
+        Ok(answer) => println!(rt; " = {answer}"),
+        Err(Error::OutOfMemory(error)) => Err(error.into()),
+        Err(error) => println!(rt; " = {error}"),
     }
-    rt.write_all(&line[2..])?;
-    rt.write_all(b" = ")?;
-    print_answer(rt, answer_to(&line[2..]))?;
-    rt.write_all(b"\n")
 }
 
-// The answer to a call that is asked for by its arguments alone.
-fn answer_to(text: &[u8]) -> Answer {
-    let line = read(text);
-    let named = line.named;
-    let Named::Kind(kind) = named else {
-        return Answer::unreadable();
-    };
-    let numbers = line.numbers;
-    let count = line.count;
-    let answer = call(kind, &numbers[..count]);
-    if answer.arguments != count {
-        return Answer::unreadable();
+fn answer_to(alloc: Global, text: &[u8]) -> Result<Answer, Error> {
+    let line = Line::read(alloc, text)?;
+    let mut arguments = Arguments::new(alloc, &line.numbers);
+    match call(line.kind, &mut arguments) {
+        Ok(_) | Err(Error::Refused(_)) if !arguments.rest.is_empty() => Err(Error::Unreadable),
+        answer => answer,
     }
-    answer
 }
 
-// The tally with a line that has a stored answer.
-fn with_stored(tally: Tally, number: u64, text: &[u8]) -> Tally {
-    let line = read(text);
-    let named = line.named;
-    let Named::Kind(kind) = named else {
-        return tally.with_unreadable(number);
-    };
-    let numbers = line.numbers;
-    let count = line.count;
-    tally.with(number, kind, compare::line(kind, &numbers[..count]))
+// Adds a line that has a stored answer to the tally.
+fn add_stored(alloc: Global, tally: &mut Tally, number: u64, text: &[u8]) -> io::Result<()> {
+    match compare(alloc, text) {
+        Ok((kind, is_same)) => tally.add(number, kind, is_same)?,
+        Err(Error::OutOfMemory(error)) => return Err(error.into()),
+        Err(_) => tally.add_unreadable(number),
+    }
+    Ok(())
+}
+
+// The call of a line, and whether it answers the numbers that stand behind its arguments, and no
+// others. A refusal is a difference, whatever is stored: the original refuses nothing.
+fn compare(alloc: Global, text: &[u8]) -> Result<(Kind, bool), Error> {
+    let line = Line::read(alloc, text)?;
+    let mut arguments = Arguments::new(alloc, &line.numbers);
+    match call(line.kind, &mut arguments) {
+        Ok(answer) => Ok((line.kind, answer.is_stored(arguments.rest))),
+        Err(Error::Refused(_)) => Ok((line.kind, false)),
+        Err(error) => Err(error),
+    }
 }

@@ -1,83 +1,88 @@
-// Sections 3 and 6: the map check and lookup.
-use crate::answer::{Answer, Said};
-use crate::arguments::{MAX_BYTE, MAX_LONG, byte_of, list_at};
-use crate::overlapped::overlapped;
-use mom::lookup::Containing;
-use mom::{Fault, MapCheck};
+// Sections 3 and 6: the map check and lookup, of maps and of narrow maps; and moving between the two
+// widths, note 2 of document 02.
+use crate::answer::Answer;
+use crate::arguments::Arguments;
+use crate::error::Error;
+use crate::number::Number;
+use mom::Fault;
+use zuniq::ZUniqHashT;
 
-pub(crate) fn check_is_mom(numbers: &[u64]) -> Answer {
-    if numbers.len() < 1 {
-        return Answer::unreadable();
-    }
-    let depth = numbers[0];
-    let map = list_at(numbers, 1, MAX_LONG);
-    if depth > MAX_BYTE || map.next > numbers.len() {
-        return Answer::unreadable();
-    }
-    let zuniqs = map.items;
-    let len = map.len;
-    checked(mom::check_is_mom(byte_of(depth), &zuniqs[..len]), map.next)
+pub fn check_is_mom<Z: ZUniqHashT + Number>(
+    arguments: &mut Arguments<'_>,
+) -> Result<Answer, Error> {
+    let depth = arguments.number()?;
+    let zuniqs = arguments.list::<Z>()?;
+    let Some(first) = mom::check_is_mom(depth, &zuniqs)? else {
+        return Answer::case(arguments.alloc, "valid", 0);
+    };
+    let faulty = match first.fault {
+        Fault::NotZuniq => Answer::case(arguments.alloc, "not a zuniq at", 1),
+        Fault::TooDeep => Answer::case(arguments.alloc, "too deep at", 2),
+        Fault::NotAbove => Answer::case(arguments.alloc, "not above at", 3),
+        Fault::Overlapping => Answer::case(arguments.alloc, "overlapping at", 4),
+    };
+    faulty?.with(first.place)
 }
 
-// What the check answered, of either width.
-pub(crate) fn checked(check: MapCheck, arguments: usize) -> Answer {
-    match check {
-        MapCheck::Valid => Answer::new(Said::Valid, arguments).with(0),
-        MapCheck::Faulty(place, fault) => faulty(fault, arguments).with(place as u64),
-        MapCheck::Refused(refusal) => Answer::refused(refusal, arguments),
-    }
+pub fn get_cell_containing<Z: ZUniqHashT + Number>(
+    arguments: &mut Arguments<'_>,
+) -> Result<Answer, Error> {
+    let depth = arguments.number()?;
+    let zuniqs = arguments.list::<Z>()?;
+    let query = arguments.number()?;
+    let place = lookup::get_cell_containing(depth, &zuniqs, query)?;
+    Answer::option(arguments.alloc, place)
 }
 
-fn faulty(fault: Fault, arguments: usize) -> Answer {
-    match fault {
-        Fault::NotZuniq => Answer::new(Said::NotZuniq, arguments).with(1),
-        Fault::TooDeep => Answer::new(Said::TooDeep, arguments).with(2),
-        Fault::NotAbove => Answer::new(Said::NotAbove, arguments).with(3),
-        Fault::Overlapping => Answer::new(Said::Overlapping, arguments).with(4),
-    }
+pub fn get_overlapped_cells<Z: ZUniqHashT + Number>(
+    arguments: &mut Arguments<'_>,
+) -> Result<Answer, Error> {
+    let zuniqs = arguments.list::<Z>()?;
+    let query = arguments.number()?;
+    let overlapped = lookup::get_overlapped_cells(&zuniqs, query)?;
+    let answer = Answer::new(arguments.alloc).with(overlapped.first)?;
+    answer.with_list(overlapped.part)
 }
 
-pub(crate) fn get_cell_containing(numbers: &[u64]) -> Answer {
-    if numbers.len() < 1 {
-        return Answer::unreadable();
-    }
-    let depth = numbers[0];
-    if depth > MAX_BYTE {
-        return Answer::unreadable();
-    }
-    let map = list_at(numbers, 1, MAX_LONG);
-    let at = map.next;
-    if at >= numbers.len() {
-        return Answer::unreadable();
-    }
-    let query = numbers[at];
-    let end = at + 1;
-    let zuniqs = map.items;
-    let len = map.len;
-    found(
-        lookup::get_cell_containing(byte_of(depth), &zuniqs[..len], query),
-        end,
-    )
+// A map to be moved, and the output.
+#[derive(Drop)]
+struct Move<Z, W> {
+    depth: u8,
+    zuniqs: Vec<Z>,
+    counts: Vec<u32>,
+    out_zuniqs: Vec<W>,
+    out_counts: Vec<u32>,
 }
 
-// What looking for the entry over a cell answered, of either width.
-pub(crate) fn found(containing: Containing, arguments: usize) -> Answer {
-    match containing {
-        Containing::At(place) => Answer::values(arguments).with(place as u64),
-        Containing::Nothing => Answer::new(Said::Nothing, arguments),
-        Containing::Refused(refusal) => Answer::refused(refusal, arguments),
+impl<Z: Number, W: Number> Move<Z, W> {
+    fn read(arguments: &mut Arguments<'_>) -> Result<Self, Error> {
+        Ok(Self {
+            depth: arguments.number()?,
+            zuniqs: arguments.list()?,
+            counts: arguments.list()?,
+            out_zuniqs: arguments.list()?,
+            out_counts: arguments.list()?,
+        })
     }
 }
 
-pub(crate) fn get_overlapped_cells(numbers: &[u64]) -> Answer {
-    let map = list_at(numbers, 0, MAX_LONG);
-    let at = map.next;
-    if at >= numbers.len() {
-        return Answer::unreadable();
-    }
-    let zuniqs = map.items;
-    let len = map.len;
-    let mut answer = overlapped(&zuniqs[..len], numbers[at]);
-    answer.arguments = at + 1;
+pub fn move_map<Z, W>(arguments: &mut Arguments<'_>) -> Result<Answer, Error>
+where
+    Z: ZUniqHashT + Number,
+    W: ZUniqHashT + Number,
+{
+    let mut map = Move::<Z, W>::read(arguments)?;
+    let moved = moving::move_map(
+        map.depth,
+        &map.zuniqs,
+        &map.counts,
+        &mut map.out_zuniqs,
+        &mut map.out_counts,
+    )?;
+    let answer = Answer::new(arguments.alloc)
+        .with(moved.depth)?
+        .with(moved.entries)?;
     answer
+        .with_list(&map.out_zuniqs)?
+        .with_list(&map.out_counts)
 }

@@ -1,115 +1,83 @@
 // How the lines fared, counted by kind, and printed.
-use crate::compare::Outcome;
-use crate::kind::{KINDS, Kind};
-use std::io;
+use crate::error::Error;
+use crate::kind::Kind;
+use std::alloc::{AllocError, Global};
+use std::collections::BTreeMap;
+use std::fmt;
 
-#[derive(Clone, Copy)]
+#[derive(Drop)]
 pub struct Tally {
-    // For each kind, at its place.
-    pub same: [u64; KINDS],
-    pub different: [u64; KINDS],
+    kinds: BTreeMap<Kind, Fared>,
     // For all kinds together: a line that is not readable may have lost its word.
-    pub unreadable: u64,
-    // The first line that is different or unreadable, counted from 1, or 0 while there is none.
-    pub first: u64,
+    unreadable: u64,
+    // The first line that is different or unreadable, counted from 1.
+    first: Option<u64>,
+}
+
+#[derive(Clone, Copy, Default)]
+struct Fared {
+    same: u64,
+    different: u64,
 }
 
 impl Tally {
-    pub(crate) fn new() -> Self {
+    pub fn new(alloc: Global) -> Self {
         Self {
-            same: [0u64; KINDS],
-            different: [0u64; KINDS],
+            kinds: BTreeMap::new(alloc),
             unreadable: 0,
-            first: 0,
+            first: None,
         }
     }
 
-    // The tally with this line, given by its number.
-    pub(crate) fn with(mut self, line: u64, kind: Kind, outcome: Outcome) -> Self {
-        let place = kind.place();
-        match outcome {
-            Outcome::Same => {
-                self.same[place] = plus(self.same[place], 1);
-                self
-            }
-            Outcome::Different => {
-                self.different[place] = plus(self.different[place], 1);
-                self.with_fault(line)
-            }
-            Outcome::Unreadable => self.with_unreadable(line),
-        }
-    }
-
-    pub(crate) fn with_unreadable(mut self, line: u64) -> Self {
-        self.unreadable = plus(self.unreadable, 1);
-        self.with_fault(line)
-    }
-
-    fn with_fault(mut self, line: u64) -> Self {
-        if self.first == 0 {
-            self.first = line;
-        }
-        self
-    }
-
-    // A line for each kind, the first fault if there is one, and the last line for all kinds:
-    // 300 same, 0 different, 0 unreadable
-    pub(crate) fn print(self, rt: &impl Print) -> io::Result<()> {
-        self.print_kinds(rt)?;
-        self.print_first(rt)?;
-        let same = self.same;
-        let different = self.different;
-        print_counts(rt, sum(same), sum(different))?;
-        let unreadable = self.unreadable;
-        println!(rt; ", {unreadable} unreadable")
-    }
-
-    fn print_kinds(self, rt: &impl Print) -> io::Result<()> {
-        for i in 0..KINDS {
-            self.print_kind(rt, Kind::at(i))?;
+    // Adds a line, given by its number.
+    pub fn add(&mut self, line: u64, kind: Kind, is_same: bool) -> Result<(), AllocError> {
+        let fared = self.kinds.entry(kind)?.or_default();
+        if is_same {
+            fared.same = fared.same.saturating_add(1);
+        } else {
+            fared.different = fared.different.saturating_add(1);
+            self.first.get_or_insert(line);
         }
         Ok(())
     }
 
-    // n_hash 30 same, 0 different; nothing for a kind that has no lines.
-    fn print_kind(self, rt: &impl Print, kind: Kind) -> io::Result<()> {
-        let place = kind.place();
-        if self.same[place] == 0 && self.different[place] == 0 {
-            return Ok(());
+    pub fn add_unreadable(&mut self, line: u64) {
+        self.unreadable = self.unreadable.saturating_add(1);
+        self.first.get_or_insert(line);
+    }
+}
+
+// A line for each kind that has lines, the first fault if there is one, and the last line for all kinds:
+// 300 same, 0 different, 0 unreadable
+impl fmt::Display for Tally {
+    fn fmt<W: fmt::Write>(&self, f: &mut fmt::Formatter<W>) -> fmt::Result {
+        let mut all = Fared::default();
+        for (kind, fared) in self.kinds.iter() {
+            writeln!(f, "{kind} {fared}")?;
+            all = all.plus(*fared);
         }
-        kind.print(rt)?;
-        rt.print(" ")?;
-        print_counts(rt, self.same[place], self.different[place])?;
-        rt.print("\n")
-    }
-
-    // first at line 17
-    fn print_first(self, rt: &impl Print) -> io::Result<()> {
-        if self.first == 0 {
-            return Ok(());
+        if let Some(first) = self.first {
+            writeln!(f, "first at line {first}")?;
         }
-        let first = self.first;
-        println!(rt; "first at line {first}")
+        let unreadable = self.unreadable;
+        writeln!(f, "{all}, {unreadable} unreadable")
     }
 }
 
-fn print_counts(rt: &impl Print, same: u64, different: u64) -> io::Result<()> {
-    print!(rt; "{same} same, {different} different")
+// An input has fewer than 327,680 lines, so no count gets to the largest u64.
+impl Fared {
+    fn plus(self, other: Self) -> Self {
+        Self {
+            same: self.same.saturating_add(other.same),
+            different: self.different.saturating_add(other.different),
+        }
+    }
 }
 
-fn sum(counts: [u64; KINDS]) -> u64 {
-    let mut all = 0;
-    for place in 0..KINDS {
-        all = plus(all, counts[place]);
+impl fmt::Display for Fared {
+    fn fmt<W: fmt::Write>(&self, f: &mut fmt::Formatter<W>) -> fmt::Result {
+        let same = self.same;
+        let different = self.different;
+        write!(f, "{same} same, {different} different")
     }
-    all
-}
-
-// The sum, or the largest u64 where it is above that. An input has fewer than 65,536 lines, so no
-// count gets there; stopping there spares each caller a bound on its counts.
-fn plus(a: u64, b: u64) -> u64 {
-    if a > u64::MAX - b {
-        return u64::MAX;
-    }
-    a + b
 }

@@ -1,21 +1,19 @@
 -- When rows are accepted: what the lengths then are, that nothing else is asked, and what the call did. Assumes nothing.
 use mathlib.Core.Path.{◌≡◌, refl, ap, sym}
 use mathlib.Core.Bool.{Bool, true, false, not, ◌||◌, cond, false≢true}
-use mathlib.Core.Logic.{◌⊎◌, inl, inr}
 use mathlib.Core.List.{List, [], ◌∷◌, ◌++◌}
 use Prim.{Unit}
-use Prim.Native.Nat.{ℕ, ◌*◌, ◌/◌, ◌%◌, ◌≤◌, ◌<◌}
-use native.Mathlib.Omega.{arith}
+use Prim.Native.Nat.{ℕ, ◌*◌, ◌/◌, ◌%◌, ◌≤◌}
 use lib.Dec.{eqb, ltb}
 use lib.ListN.{length, drop}
-use borrow.Author.Tests.{lt-ltb, le-ltb, ltb-false, eq-eqb, ne_eqb, eqb-true}
+use borrow.Author.Tests.{le-ltb, ltb-false, eq-eqb, eqb-true}
+use Rattle.std.specs.Prelude.{Result, Ok, Err}
 use Rattle.refusal.specs.declared.Refusal.{Refusal}
-use Rattle.rows.specs.declared.Rows.{Rows}
 use Rattle.rows.specs.Rows.{Column, row_size, rows_bytes, filled, lengths, others_differ, differ, places, rows_to_read, rows_to_write, read_as, read_rows, write_as, write_rows}
 
 -- a refusal is no number of rows
-pub refused : (r : Refusal) (n : ℕ) → Rows.Refused r ≡ Rows.Rows n → ⊥
-refused r n e = let z : ◌≡◌ {A = ℕ} 0 1 = cc in omega arith
+pub refused : (r : Refusal) (n : ℕ) → ◌≡◌ {A = Result ℕ Refusal} (Err r) (Ok n) → ⊥
+refused r n e = cc
 
 -- ---- reading
 
@@ -27,42 +25,22 @@ pub record Readable (k bytes : ℕ) (ls : List ℕ) (n : ℕ) : Type 0 where
   pub rows : bytes / k ≡ n
 
 -- Reading is accepted exactly if all of that holds.
-pub readable : (k bytes : ℕ) (ls : List ℕ) (n : ℕ) → rows_to_read k bytes ls ≡ Rows.Rows n → Readable k bytes ls n
+pub readable : (k bytes : ℕ) (ls : List ℕ) (n : ℕ) → rows_to_read k bytes ls ≡ Ok n → Readable k bytes ls n
 unfolding rows_to_read
 readable k bytes ls n = go (differ ls) refl (eqb (bytes % k) 0) refl (ltb (places ls) (bytes / k)) refl
   where
     go : (a : Bool) → differ ls ≡ a → (b : Bool) → eqb (bytes % k) 0 ≡ b → (s : Bool) → ltb (places ls) (bytes / k) ≡ s
-        → cond a (Rows.Refused Refusal.LengthMismatch) (cond (not b) (Rows.Refused Refusal.LengthMismatch) (cond s (Rows.Refused Refusal.NoSpace) (Rows.Rows (bytes / k)))) ≡ Rows.Rows n
+        → cond a (Err Refusal.LengthMismatch) (cond (not b) (Err Refusal.LengthMismatch) (cond s (Err Refusal.NoSpace) (Ok (bytes / k)))) ≡ Ok n
         → Readable k bytes ls n
     go true p b q s r e = absurd (refused Refusal.LengthMismatch n e)
     go false p false q s r e = absurd (refused Refusal.LengthMismatch n e)
     go false p true q true r e = absurd (refused Refusal.NoSpace n e)
     go false p true q false r e = record { paired = p; even = eqb-true _ _ q; space = ltb-false _ _ r; rows = cc }
 
-pub reads : (k bytes : ℕ) (ls : List ℕ) (n : ℕ) → Readable k bytes ls n → rows_to_read k bytes ls ≡ Rows.Rows n
+pub reads : (k bytes : ℕ) (ls : List ℕ) (n : ℕ) → Readable k bytes ls n → rows_to_read k bytes ls ≡ Ok n
 unfolding rows_to_read
 reads k bytes ls n a =
-    rw (a.paired, eq-eqb (bytes % k) 0 a.even, le-ltb (places ls) (bytes / k) a.space) (ap Rows.Rows a.rows)
-
--- What reading into two buffers answers, by what is wrong with them.
-module _ (k bytes n m : ℕ) where
-  pub read_mismatch : ((n ≡ m → ⊥) ⊎ (bytes % k ≡ 0 → ⊥)) → rows_to_read k bytes (n ∷ m ∷ []) ≡ Rows.Refused Refusal.LengthMismatch
-  unfolding rows_to_read differ others_differ
-  read_mismatch (inl apart) = rw (ne_eqb n m apart) refl
-  read_mismatch (inr uneven) = rw (ne_eqb (bytes % k) 0 uneven) (go (eqb n m))
-    where
-      go : (b : Bool) → cond (not b || false) (Rows.Refused Refusal.LengthMismatch) (Rows.Refused Refusal.LengthMismatch) ≡ Rows.Refused Refusal.LengthMismatch
-      go true = refl
-      go false = refl
-
-  module _ (paired : n ≡ m) (even : bytes % k ≡ 0) where
-    pub read_no_space : n < bytes / k → rows_to_read k bytes (n ∷ m ∷ []) ≡ Rows.Refused Refusal.NoSpace
-    unfolding rows_to_read differ others_differ places
-    read_no_space l = rw (eq-eqb n m paired, eq-eqb (bytes % k) 0 even, lt-ltb n (bytes / k) l) refl
-
-    pub read_all : bytes / k ≤ n → rows_to_read k bytes (n ∷ m ∷ []) ≡ Rows.Rows (bytes / k)
-    unfolding rows_to_read differ others_differ places
-    read_all l = rw (eq-eqb n m paired, eq-eqb (bytes % k) 0 even, le-ltb n (bytes / k) l) refl
+    rw (a.paired, eq-eqb (bytes % k) 0 a.even, le-ltb (places ls) (bytes / k) a.space) (ap (λ (m : ℕ). Ok m) a.rows)
 
 -- ---- writing
 
@@ -73,20 +51,20 @@ pub record Writable (k bytes : ℕ) (ls : List ℕ) (n : ℕ) : Type 0 where
   pub rows : places ls ≡ n
 
 -- Writing is accepted exactly if all of that holds.
-pub writable : (k bytes : ℕ) (ls : List ℕ) (n : ℕ) → rows_to_write k bytes ls ≡ Rows.Rows n → Writable k bytes ls n
+pub writable : (k bytes : ℕ) (ls : List ℕ) (n : ℕ) → rows_to_write k bytes ls ≡ Ok n → Writable k bytes ls n
 unfolding rows_to_write
 writable k bytes ls n = go (differ ls) refl (ltb bytes (places ls * k)) refl
   where
     go : (a : Bool) → differ ls ≡ a → (s : Bool) → ltb bytes (places ls * k) ≡ s
-        → cond a (Rows.Refused Refusal.LengthMismatch) (cond s (Rows.Refused Refusal.NoSpace) (Rows.Rows (places ls))) ≡ Rows.Rows n
+        → cond a (Err Refusal.LengthMismatch) (cond s (Err Refusal.NoSpace) (Ok (places ls))) ≡ Ok n
         → Writable k bytes ls n
     go true p s r e = absurd (refused Refusal.LengthMismatch n e)
     go false p true r e = absurd (refused Refusal.NoSpace n e)
     go false p false r e = record { paired = p; space = ltb-false _ _ r; rows = cc }
 
-pub writes : (k bytes : ℕ) (ls : List ℕ) (n : ℕ) → Writable k bytes ls n → rows_to_write k bytes ls ≡ Rows.Rows n
+pub writes : (k bytes : ℕ) (ls : List ℕ) (n : ℕ) → Writable k bytes ls n → rows_to_write k bytes ls ≡ Ok n
 unfolding rows_to_write
-writes k bytes ls n a = rw (a.paired, le-ltb bytes (places ls * k) a.space) (ap Rows.Rows a.rows)
+writes k bytes ls n a = rw (a.paired, le-ltb bytes (places ls * k) a.space) (ap (λ (m : ℕ). Ok m) a.rows)
 
 -- ---- lengths that do not differ
 
@@ -123,27 +101,27 @@ lengths_same n (m ∷ ms) a = rw (← a.0) (same_others n ms a.1)
 -- ---- what an accepted call did
 
 -- An accepted writing puts the rows in front of the buffer.
-pub written : (t : List Column) (buffer out : List ℕ) (n : ℕ) → write_rows t buffer ≡ (Rows.Rows n, out)
-    → (rows_to_write (row_size t) (length buffer) (lengths t) ≡ Rows.Rows n) × (out ≡ rows_bytes t n ++ drop (n * row_size t) buffer)
+pub written : (t : List Column) (buffer out : List ℕ) (n : ℕ) → write_rows t buffer ≡ (Ok n, out)
+    → (rows_to_write (row_size t) (length buffer) (lengths t) ≡ Ok n) × (out ≡ rows_bytes t n ++ drop (n * row_size t) buffer)
 unfolding write_as write_rows
 written t buffer out n = go (rows_to_write (row_size t) (length buffer) (lengths t))
   where
-    go : (a : Rows) → write_as a t buffer ≡ (Rows.Rows n, out) → (a ≡ Rows.Rows n) × (out ≡ rows_bytes t n ++ drop (n * row_size t) buffer)
-    go (Rows.Rows m) e =
-        let a : Rows.Rows m ≡ Rows.Rows n = ap (λ (p : Rows × List ℕ). p.0) e in
+    go : (a : Result ℕ Refusal) → write_as a t buffer ≡ (Ok n, out) → (a ≡ Ok n) × (out ≡ rows_bytes t n ++ drop (n * row_size t) buffer)
+    go (Ok m) e =
+        let a : Ok m ≡ Ok n = ap (λ (p : Result ℕ Refusal × List ℕ). p.0) e in
         let q : m ≡ n = cc in
-        (a, rw q at (sym (ap (λ (p : Rows × List ℕ). p.1) e)))
-    go (Rows.Refused r) e = absurd (refused r n (ap (λ (p : Rows × List ℕ). p.0) e))
+        (a, rw q at (sym (ap (λ (p : Result ℕ Refusal × List ℕ). p.1) e)))
+    go (Err r) e = absurd (refused r n (ap (λ (p : Result ℕ Refusal × List ℕ). p.0) e))
 
 -- An accepted reading fills the columns.
-pub was_read : (t s : List Column) (bytes : List ℕ) (n : ℕ) → read_rows t bytes ≡ (Rows.Rows n, s)
-    → (rows_to_read (row_size t) (length bytes) (lengths t) ≡ Rows.Rows n) × (s ≡ filled (row_size t) 0 bytes n t)
+pub was_read : (t s : List Column) (bytes : List ℕ) (n : ℕ) → read_rows t bytes ≡ (Ok n, s)
+    → (rows_to_read (row_size t) (length bytes) (lengths t) ≡ Ok n) × (s ≡ filled (row_size t) 0 bytes n t)
 unfolding read_as read_rows
 was_read t s bytes n = go (rows_to_read (row_size t) (length bytes) (lengths t))
   where
-    go : (a : Rows) → read_as a t bytes ≡ (Rows.Rows n, s) → (a ≡ Rows.Rows n) × (s ≡ filled (row_size t) 0 bytes n t)
-    go (Rows.Rows m) e =
-        let a : Rows.Rows m ≡ Rows.Rows n = ap (λ (p : Rows × List Column). p.0) e in
+    go : (a : Result ℕ Refusal) → read_as a t bytes ≡ (Ok n, s) → (a ≡ Ok n) × (s ≡ filled (row_size t) 0 bytes n t)
+    go (Ok m) e =
+        let a : Ok m ≡ Ok n = ap (λ (p : Result ℕ Refusal × List Column). p.0) e in
         let q : m ≡ n = cc in
-        (a, rw q at (sym (ap (λ (p : Rows × List Column). p.1) e)))
-    go (Rows.Refused r) e = absurd (refused r n (ap (λ (p : Rows × List Column). p.0) e))
+        (a, rw q at (sym (ap (λ (p : Result ℕ Refusal × List Column). p.1) e)))
+    go (Err r) e = absurd (refused r n (ap (λ (p : Result ℕ Refusal × List Column). p.0) e))

@@ -6,7 +6,7 @@ use native.Mathlib.Nat.{add-zero, add_assoc, suc-mul, zero-mul, le_trans, mul-le
 use native.Mathlib.Omega.{arith}
 use lib.ListN.{length, get_or, take, drop, length-drop, get_or-append}
 use lib.Seq.{take_at, take_all, take-add, length-take-le, drop-drop, get_or-take, get_or-drop}
-use Rattle.rows.specs.declared.Rows.{Rows}
+use Rattle.std.specs.Prelude.{Ok}
 use Rattle.rows.specs.LittleEndian.{to_le_bytes, from_le_bytes}
 use Rattle.rows.specs.Rows.{Column, column, row_size, row_bytes, rows_bytes, number_in, numbers_in, filled, lengths, places, read_rows, write_as, write_rows}
 use Rattle.rows.proofs.LittleEndian.{Below, to_from_le}
@@ -102,9 +102,9 @@ places-are n [] k a = absurd (omega arith)
 places-are n (c ∷ cs) k a = sym a.0
 
 -- Bytes that were read into a table, written from it, give the bytes.
-pub bytes_again : (t s : List Column) (bytes buffer : List ℕ) (n : ℕ) → 0 < row_size t → Below 256 bytes → read_rows t bytes ≡ (Rows.Rows n, s)
+pub bytes_again : (t s : List Column) (bytes buffer : List ℕ) (n : ℕ) → 0 < row_size t → Below 256 bytes → read_rows t bytes ≡ (Ok n, s)
     → length bytes ≤ length buffer
-    → write_rows (first n s) buffer ≡ (Rows.Rows n, bytes ++ drop (length bytes) buffer)
+    → write_rows (first n s) buffer ≡ (Ok n, bytes ++ drop (length bytes) buffer)
 unfolding write_as write_rows
 bytes_again t s bytes buffer n k b e l =
     let d = was_read t s bytes n e in

@@ -1,6 +1,7 @@
 pub mod LittleEndian
 pub mod Put
 pub mod Accepted
+pub mod Numbers
 pub mod Loops
 pub mod Zuniqs
 pub mod RowsAgain

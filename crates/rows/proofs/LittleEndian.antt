@@ -1,13 +1,13 @@
--- The laws of little-endian numbers, over any number of bytes: bytes and back, numbers and back, and a number in two parts.
+-- The laws of little-endian numbers, over any number of bytes: bytes and back, numbers and back, and that std's are the same.
 -- Assumes nothing.
 use mathlib.Core.Path.{◌≡◌, refl, ap, sym, ◌∙◌}
-use mathlib.Core.List.{List, [], ◌∷◌, ◌++◌}
-use Prim.Native.Nat.{ℕ, zero, suc, ◌+◌, ◌*◌, ◌/◌, ◌%◌, ◌^◌, ◌≤◌, ◌<◌}
-use native.Mathlib.Nat.{pow-suc, add-zero, add-suc, suc-add, zero-add, one-le-pow, div-one, div-div-eq-div-mul, mul_comm, mul_assoc}
+use mathlib.Core.List.{List, [], ◌∷◌}
+use Prim.Native.Nat.{ℕ, zero, suc, ◌+◌, ◌-◌, ◌*◌, ◌/◌, ◌%◌, ◌^◌, ◌≤◌, ◌<◌}
+use native.Mathlib.Nat.{pow-suc, div-one, div-div-eq-div-mul, mul_assoc}
 use native.Mathlib.Omega.{arith}
-use lib.Arith.{mod-mul}
 use lib.ListN.{length, get_or, take, drop, length-drop}
-use lib.Seq.{length-take-le, drop-cons, drop-drop, take-add}
+use lib.Seq.{length-take-le, drop-cons}
+use Rattle.std.specs.Int.{byte_at, byte_worth, bytes_low_first, sum_through}
 use Rattle.rows.specs.LittleEndian.{to_le_bytes, from_le_bytes}
 
 -- every number of a list is below m; of bytes 256, of numbers in w bytes 256 ^ w
@@ -52,52 +52,64 @@ to_from_le (b ∷ bs) h =
     let q : (b + 256 * n) / 256 ≡ n = omega (arith, h 0) in
     rw (r, q, to_from_le bs (λ i. h (suc i))) refl
 
--- ---- a number in two parts
+-- ---- as std has them
 
--- The lower bytes come first.
-pub to_le_add : (j k n : ℕ) → to_le_bytes (j + k) n ≡ to_le_bytes j n ++ to_le_bytes k (n / 256 ^ j)
+byte_is : (i n : ℕ) → byte_at i n ≡ n / 256 ^ i % 256
+byte_is zero n = rw (div-one n) refl
+byte_is (suc i) n = refl
+
+-- std writes the same bytes, from any byte of the number on.
+low_first_from : (i k n : ℕ) → bytes_low_first i k n ≡ to_le_bytes k (n / 256 ^ i)
 unfolding to_le_bytes
-to_le_add zero k n = rw (zero-add k, div-one n) refl
-to_le_add (suc j) k n =
-    let e : n / 256 / 256 ^ j ≡ n / 256 ^ suc j = div-div-eq-div-mul n 256 (256 ^ j) ∙ ap (λ (m : ℕ). n / m) (mul_comm 256 (256 ^ j) ∙ sym (pow-suc 256 j)) in
-    rw (suc-add j k, to_le_add j k (n / 256), e) refl
+low_first_from i zero n = refl
+low_first_from i (suc k) n =
+    let e : n / 256 ^ i / 256 ≡ n / 256 ^ suc i = div-div-eq-div-mul n (256 ^ i) 256 ∙ ap (λ (m : ℕ). n / m) (sym (pow-suc 256 i)) in
+    rw (byte_is i n, e, low_first_from (suc i) k n) refl
 
--- What is above the bytes does not count.
-pub to_le_mod : (j n : ℕ) → to_le_bytes j (n % 256 ^ j) ≡ to_le_bytes j n
-unfolding to_le_bytes
-to_le_mod zero n = refl
-to_le_mod (suc j) n =
-    let s : n % 256 ^ suc j ≡ (n / 256 % 256 ^ j) * 256 + n % 256 = ap (λ (m : ℕ). n % m) (pow-suc 256 j) ∙ mod-mul n (one-le-pow j 256 (omega arith)) (omega arith) in
-    let m = n / 256 % 256 ^ j in
-    let r : (m * 256 + n % 256) % 256 ≡ n % 256 = omega arith in
-    let q : (m * 256 + n % 256) / 256 ≡ m = omega arith in
-    rw (s, r, q, to_le_mod j (n / 256)) refl
+pub low_first : (k n : ℕ) → bytes_low_first 0 k n ≡ to_le_bytes k n
+low_first k n = low_first_from 0 k n ∙ ap (to_le_bytes k) (div-one n)
 
--- Bytes in two parts: the second counts 256 for each byte of the first.
-pub from_le_append : (low high : List ℕ) → from_le_bytes (low ++ high) ≡ from_le_bytes low + 256 ^ length low * from_le_bytes high
+-- A byte more in front counts what is behind it 256 times.
+sum_more : (b : ℕ) (bs : List ℕ) (k : ℕ) → sum_through (λ i. byte_worth i (get_or (b ∷ bs) i 0)) (suc k) ≡ b + 256 * sum_through (λ i. byte_worth i (get_or bs i 0)) k
+sum_more b bs zero = omega arith
+sum_more b bs (suc k) =
+    let c = get_or bs (suc k) 0 in
+    let e : c * 256 ^ suc (suc k) ≡ c * 256 ^ suc k * 256 = ap (λ (m : ℕ). c * m) (pow-suc 256 (suc k)) ∙ sym (mul_assoc c (256 ^ suc k) 256) in
+    omega (arith, sum_more b bs k, e)
+
+-- std reads the same number.
+pub sum_is : (bs : List ℕ) (k : ℕ) → length bs ≡ suc k → sum_through (λ i. byte_worth i (get_or bs i 0)) k ≡ from_le_bytes bs
 unfolding from_le_bytes
-from_le_append [] high = omega arith
-from_le_append (b ∷ low) high =
-    let n = from_le_bytes high in
-    let e : 256 ^ suc (length low) * n ≡ 256 * (256 ^ length low * n) = ap (λ (m : ℕ). m * n) (pow-suc 256 (length low) ∙ mul_comm (256 ^ length low) 256) ∙ mul_assoc 256 (256 ^ length low) n in
-    rw (from_le_append low high, e) (omega arith)
+sum_is [] k e = absurd (omega arith)
+sum_is (b ∷ []) zero e = omega arith
+sum_is (b ∷ c ∷ bs) zero e = absurd (omega arith)
+sum_is (b ∷ bs) (suc k) e = sum_more b bs k ∙ ap (λ (m : ℕ). b + 256 * m) (sum_is bs k (omega arith))
 
--- ---- numbers in a slice of bytes
+-- It is the number of a part of the bytes.
+pub number-part : (at k : ℕ) (part bytes : List ℕ) → part ≡ take (at + suc k - at) (drop at bytes) → at + suc k ≤ length bytes
+    → sum_through (λ i. byte_worth i (get_or part i 0)) k ≡ from_le_bytes (take (suc k) (drop at bytes))
+number-part at k part bytes e h =
+    let d : at + suc k - at ≡ suc k = omega arith in
+    let same : part ≡ take (suc k) (drop at bytes) = rw d at e in
+    let long : length part ≡ suc k = ap length same ∙ length-take-le (suc k) (drop at bytes) (rw (length-drop at bytes) (omega arith)) in
+    sum_is part k long ∙ ap from_le_bytes same
 
--- A part that is not empty: its first byte, and what follows.
-take_next : (l : List ℕ) (at j k : ℕ) → at + j < length l → take (suc k) (drop (at + j) l) ≡ get_or l (at + j) 0 ∷ take k (drop (at + suc j) l)
-take_next l at j k h = rw (drop-cons l (at + j) 0 h, add-suc at j) refl
+-- k bytes from byte i on behind a place, one by one
+abbrev pub bytes_at : ℕ → ℕ → ℕ → List ℕ → List ℕ
+bytes_at at i zero bytes = []
+bytes_at at i (suc k) bytes = get_or bytes (at + i) 0 ∷ bytes_at at (suc i) k bytes
 
--- Four bytes of a slice, one by one.
-pub take-four : (l : List ℕ) (at : ℕ) → at + 4 ≤ length l
-    → take 4 (drop at l) ≡ get_or l at 0 ∷ get_or l (at + 1) 0 ∷ get_or l (at + 2) 0 ∷ get_or l (at + 3) 0 ∷ []
-take-four l at h =
-    let first : take 4 (drop at l) ≡ get_or l at 0 ∷ take 3 (drop (at + 1) l) = simp add-zero at (take_next l at 0 3 (omega arith)) in
-    rw (first, take_next l at 1 2 (omega arith), take_next l at 2 1 (omega arith), take_next l at 3 0 (omega arith)) refl
+bytes_at-part : (at i k : ℕ) (bytes : List ℕ) → at + i + k ≤ length bytes → bytes_at at i k bytes ≡ take k (drop (at + i) bytes)
+bytes_at-part at i zero bytes h = refl
+bytes_at-part at i (suc k) bytes h =
+    let next : at + suc i ≡ suc (at + i) = omega arith in
+    rw (drop-cons bytes (at + i) 0 (omega arith)) (ap (λ xs. get_or bytes (at + i) 0 ∷ xs) (rw next at (bytes_at-part at (suc i) k bytes (omega arith))))
 
--- A number read in two parts.
-pub from_le_parts : (l : List ℕ) (at j k : ℕ) → at + j ≤ length l
-    → from_le_bytes (take (j + k) (drop at l)) ≡ from_le_bytes (take j (drop at l)) + 256 ^ j * from_le_bytes (take k (drop (at + j) l))
-from_le_parts l at j k h =
-    let n : length (take j (drop at l)) ≡ j = length-take-le j (drop at l) (rw (length-drop at l) (omega arith)) in
-    rw (take-add j k (drop at l), drop-drop j at l, from_le_append (take j (drop at l)) (take k (drop (at + j) l)), n) refl
+-- The number of bytes that are read one by one.
+pub number-bytes : (at k : ℕ) (bytes : List ℕ) → at + suc k ≤ length bytes
+    → sum_through (λ i. byte_worth i (get_or (get_or bytes at 0 ∷ bytes_at at 1 k bytes) i 0)) k ≡ from_le_bytes (take (suc k) (drop at bytes))
+number-bytes at k bytes h =
+    let z : at + 0 ≡ at = omega arith in
+    let d : at + suc k - at ≡ suc k = omega arith in
+    let part = ap (λ n. get_or bytes n 0 ∷ bytes_at at 1 k bytes) (sym z) ∙ bytes_at-part at 0 (suc k) bytes (omega arith) ∙ ap (λ n. take (suc k) (drop n bytes)) z ∙ ap (λ n. take n (drop at bytes)) (sym d) in
+    number-part at k (get_or bytes at 0 ∷ bytes_at at 1 k bytes) bytes part h

@@ -1,14 +1,16 @@
--- Putting bytes at a place of a buffer: where a part ends, in two parts, and byte by byte. Assumes nothing.
+-- Putting bytes at a place of a buffer: where a part ends, in two parts, and as std writes them. Assumes nothing.
 use mathlib.Core.Path.{◌≡◌, refl, ap, sym, ◌∙◌}
 use mathlib.Core.List.{List, [], ◌∷◌, ◌++◌, append_assoc}
-use Prim.Native.Nat.{ℕ, suc, ◌+◌, ◌/◌, ◌%◌, ◌^◌, ◌≤◌, ◌<◌}
+use Prim.Native.Nat.{ℕ, suc, ◌+◌, ◌≤◌, ◌<◌, ◌-◌}
 use native.Mathlib.Nat.{add-zero, add_assoc, add-suc}
 use native.Mathlib.Numerals.{add-one}
 use native.Mathlib.Omega.{arith}
 use lib.ListN.{length, get_or, take, drop, set, length-append, take-append-drop}
 use lib.Seq.{length-take-le, drop-cons, take_at, drop-append-add, drop-drop, set_at}
 use Rattle.rows.specs.LittleEndian.{to_le_bytes, put}
-use Rattle.rows.proofs.LittleEndian.{length-to_le, to_le_add, to_le_mod}
+use Rattle.rows.proofs.LittleEndian.{length-to_le, low_first}
+use borrow.Rule.Slice.PartMut.{put_mid}
+use Rattle.std.specs.Int.{bytes_low_first}
 
 -- Putting nothing changes nothing.
 pub put-none : (at : ℕ) (buffer : List ℕ) → put at [] buffer ≡ buffer
@@ -58,13 +60,13 @@ put_four at b0 b1 b2 b3 buffer h =
       put_byte at (b0 ∷ b1 ∷ b2 ∷ []) buffer l b3 (omega arith),
     ) refl
 
--- A number is put in two parts, the lower first.
-pub put-parts : (at j k n : ℕ) (buffer : List ℕ) → at ≤ length buffer
-    → put (at + j) (to_le_bytes k (n / 256 ^ j)) (put at (to_le_bytes j (n % 256 ^ j)) buffer) ≡ put at (to_le_bytes (j + k) n) buffer
-put-parts at j k n buffer h =
-    let low = to_le_bytes j n in
-    let high = to_le_bytes k (n / 256 ^ j) in
-    ap (λ (bs : List ℕ). put (at + j) high (put at bs buffer)) (to_le_mod j n)
-    ∙ ap (λ (m : ℕ). put (at + m) high (put at low buffer)) (sym (length-to_le j n))
-    ∙ put-put at low buffer h high
-    ∙ ap (λ (bs : List ℕ). put at bs buffer) (sym (to_le_add j k n))
+-- A part of a slice that is written is put there.
+pub put-part : (at k : ℕ) (bs buffer : List ℕ) → length bs ≡ k → put_mid at (at + k - at) buffer bs ≡ put at bs buffer
+unfolding put
+put-part at k bs buffer e = let d : at + k - at ≡ length bs = omega arith in rw (d, drop-drop (length bs) at buffer) refl
+
+-- Bytes of a number, where they are written by std.
+pub put-number : (at k n : ℕ) (bs part buffer : List ℕ) → bs ≡ bytes_low_first 0 k n → part ≡ bs → put_mid at (at + k - at) buffer part ≡ put at (to_le_bytes k n) buffer
+put-number at k n bs part buffer e f =
+    let same : part ≡ to_le_bytes k n = f ∙ e ∙ low_first k n in
+    put-part at k part buffer (ap length same ∙ length-to_le k n) ∙ ap (λ (xs : List ℕ). put at xs buffer) same

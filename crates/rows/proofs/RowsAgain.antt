@@ -8,7 +8,7 @@ use native.Mathlib.Nat.{add-zero, zero-add, add_assoc, mul-div_cancel, mul-mod_l
 use native.Mathlib.Omega.{arith}
 use lib.ListN.{length, get_or, take, drop}
 use lib.Seq.{take_at, take_all, take-suc, drop_at, drop-append-add, append_snoc}
-use Rattle.rows.specs.declared.Rows.{Rows}
+use Rattle.std.specs.Prelude.{Ok}
 use Rattle.rows.specs.LittleEndian.{to_le_bytes}
 use Rattle.rows.specs.Rows.{Column, column, row_size, row_bytes, rows_bytes, number_in, numbers_in, filled, lengths, differ, places, rows_to_read, read_as, read_rows, write_rows}
 use Rattle.rows.proofs.LittleEndian.{Below, length-to_le, from_to_le}
@@ -108,14 +108,14 @@ size_of_widths (d ∷ s) (c ∷ t) e =
     rw (same, size_of_widths s t more) refl
 
 -- Rows of a table, read into columns of the same widths, give the numbers of the table.
-pub rows_again : (t s : List Column) (buffer out : List ℕ) (n : ℕ) → 0 < row_size t → Fit t → write_rows t buffer ≡ (Rows.Rows n, out)
+pub rows_again : (t s : List Column) (buffer out : List ℕ) (n : ℕ) → 0 < row_size t → Fit t → write_rows t buffer ≡ (Ok n, out)
     → widths s ≡ widths t → differ (lengths s) ≡ false → n ≤ places (lengths s)
-    → read_rows s (take (n * row_size t) out) ≡ (Rows.Rows n, over n t s)
+    → read_rows s (take (n * row_size t) out) ≡ (Ok n, over n t s)
 unfolding row_size read_as read_rows
 rows_again t s buffer out n k f e w p l =
     let d = written t buffer out n e in
     let a = writable (row_size t) (length buffer) (lengths t) n d.0 in
     let bytes : take (n * row_size t) out ≡ rows_bytes t n = ap (take (n * row_size t)) d.1 ∙ take_at (rows_bytes t n) (drop (n * row_size t) buffer) (n * row_size t) (length-rows t n) in
     let all : n * row_size t / row_size t ≡ n = mul-div_cancel n k in
-    let accepted : rows_to_read (row_size t) (n * row_size t) (lengths s) ≡ Rows.Rows n = reads (row_size t) (n * row_size t) (lengths s) n record { paired = p; even = mul-mod_left n (row_size t); space = omega arith; rows = all } in
+    let accepted : rows_to_read (row_size t) (n * row_size t) (lengths s) ≡ Ok n = reads (row_size t) (n * row_size t) (lengths s) n record { paired = p; even = mul-mod_left n (row_size t); space = omega arith; rows = all } in
     rw (bytes, size_of_widths s t w, length-rows t n, accepted, size_of_widths s t w, columns_again t [] t s n refl (same_lengths n (lengths t) a.paired a.rows) f w) refl

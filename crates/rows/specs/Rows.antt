@@ -1,8 +1,7 @@
 -- Section 7 of the scope: rows. A table is its columns; row i is the numbers at place i of all columns, one behind the
 -- other. The row size, and how many columns there are, is left open: count rows, density rows and narrow rows are three tables.
-use Rattle.std.specs.Prelude.{Bool, false, not, ◌||◌, cond, List, [], ◌∷◌, ◌++◌, ℕ, zero, suc, ◌+◌, ◌*◌, ◌/◌, ◌%◌, eqb, ltb, length, get_or, take, drop}
+use Rattle.std.specs.Prelude.{Result, Ok, Err, Bool, false, not, ◌||◌, cond, List, [], ◌∷◌, ◌++◌, ℕ, zero, suc, ◌+◌, ◌*◌, ◌/◌, ◌%◌, eqb, ltb, length, get_or, take, drop}
 use Rattle.refusal.specs.declared.Refusal.{Refusal}
-use Rattle.rows.specs.declared.Rows.{Rows}
 use Rattle.rows.specs.LittleEndian.{to_le_bytes, from_le_bytes}
 
 -- the numbers of a column, and how many bytes each takes in a row
@@ -12,6 +11,10 @@ pub record Column : Type 0 where
 
 abbrev pub column : ℕ → List ℕ → Column
 column w xs = record { width = w; numbers = xs }
+
+-- rows of two columns: zuniqs of w bytes, and values of u
+abbrev pub table : ℕ → ℕ → List ℕ → List ℕ → List Column
+table w u zuniqs values = column w zuniqs ∷ column u values ∷ []
 
 -- "u64 zuniq, then u32 count [..], little-endian, 12 [..] bytes"
 abbrev pub count_rows : List ℕ → List ℕ → List Column
@@ -85,34 +88,34 @@ places [] = 0
 places (n ∷ ms) = n
 
 -- reading, from so many bytes: "row bytes to be read don't divide evenly" (4), "The output has fewer places than [..] rows" (11)
-unfoldable pub rows_to_read : ℕ → ℕ → List ℕ → Rows
+unfoldable pub rows_to_read : ℕ → ℕ → List ℕ → Result ℕ Refusal
 rows_to_read k bytes ls =
-    cond (differ ls) (Rows.Refused Refusal.LengthMismatch)
-    (cond (not (eqb (bytes % k) 0)) (Rows.Refused Refusal.LengthMismatch)
-    (cond (ltb (places ls) (bytes / k)) (Rows.Refused Refusal.NoSpace)
-    (Rows.Rows (bytes / k))))
+    cond (differ ls) (Err Refusal.LengthMismatch)
+    (cond (not (eqb (bytes % k) 0)) (Err Refusal.LengthMismatch)
+    (cond (ltb (places ls) (bytes / k)) (Err Refusal.NoSpace)
+    (Ok (bytes / k))))
 
 -- writing, into so many bytes: "The output has fewer places than [..] rows (in bytes, rows × row size)" (11)
-unfoldable pub rows_to_write : ℕ → ℕ → List ℕ → Rows
+unfoldable pub rows_to_write : ℕ → ℕ → List ℕ → Result ℕ Refusal
 rows_to_write k bytes ls =
-    cond (differ ls) (Rows.Refused Refusal.LengthMismatch)
-    (cond (ltb bytes (places ls * k)) (Rows.Refused Refusal.NoSpace)
-    (Rows.Rows (places ls)))
+    cond (differ ls) (Err Refusal.LengthMismatch)
+    (cond (ltb bytes (places ls * k)) (Err Refusal.NoSpace)
+    (Ok (places ls)))
 
 -- ---- the calls: the answer, with what they leave in the lent buffers
 
 -- "Both row calls answer the number of rows"; after a refusal "all lent memory stays"
-unfoldable pub read_as : Rows → List Column → List ℕ → Rows × List Column
-read_as (Rows.Rows n) t bytes = (Rows.Rows n, filled (row_size t) 0 bytes n t)
-read_as (Rows.Refused r) t bytes = (Rows.Refused r, t)
+unfoldable pub read_as : Result ℕ Refusal → List Column → List ℕ → Result ℕ Refusal × List Column
+read_as (Ok n) t bytes = (Ok n, filled (row_size t) 0 bytes n t)
+read_as (Err r) t bytes = (Err r, t)
 
-unfoldable pub read_rows : List Column → List ℕ → Rows × List Column
+unfoldable pub read_rows : List Column → List ℕ → Result ℕ Refusal × List Column
 read_rows t bytes = read_as (rows_to_read (row_size t) (length bytes) (lengths t)) t bytes
 
 -- the same for writing: the bytes past the rows stay
-unfoldable pub write_as : Rows → List Column → List ℕ → Rows × List ℕ
-write_as (Rows.Rows n) t bytes = (Rows.Rows n, rows_bytes t n ++ drop (n * row_size t) bytes)
-write_as (Rows.Refused r) t bytes = (Rows.Refused r, bytes)
+unfoldable pub write_as : Result ℕ Refusal → List Column → List ℕ → Result ℕ Refusal × List ℕ
+write_as (Ok n) t bytes = (Ok n, rows_bytes t n ++ drop (n * row_size t) bytes)
+write_as (Err r) t bytes = (Err r, bytes)
 
-unfoldable pub write_rows : List Column → List ℕ → Rows × List ℕ
+unfoldable pub write_rows : List Column → List ℕ → Result ℕ Refusal × List ℕ
 write_rows t bytes = write_as (rows_to_write (row_size t) (length bytes) (lengths t)) t bytes

@@ -1,20 +1,26 @@
 // Writing: how many rows there are to write.
-ghost use Rattle.std.specs.Prelude.{◌≡◌, [], ◌∷◌, ◌*◌, ◌^◌, ◌<◌};
+ghost use Rattle.std.specs.Prelude.{◌≡◌, [], ◌∷◌, ◌*◌, ◌≤◌, ◌<◌, IfOk};
 ghost use Rattle.rows.specs.Rows.{rows_to_write};
 
-use crate::Rows;
 use refusal::Refusal;
 
 // How many rows of this size the buffers make, where there are bytes for all of them.
-pub(crate) fn rows_to_write(row_size: usize, bytes: usize, zuniqs: usize, values: usize) -> Rows
-    requires { zuniqs * row_size < 2 ^ 64 }
-    ensures { result ≡ rows_to_write row_size bytes (zuniqs ∷ values ∷ []) }
+#[tactic(auto, unfolding(crate::specs::Rows::rows_to_write, crate::specs::Rows::differ, crate::specs::Rows::others_differ, crate::specs::Rows::places))]
+pub(crate) fn rows_to_write(
+    row_size: usize,
+    bytes: usize,
+    zuniqs: usize,
+    values: usize,
+) -> Result<usize, Refusal>
+    requires { 0 < row_size }
+    ensures answer { result ≡ rows_to_write row_size bytes (zuniqs ∷ values ∷ []) }
+    ensures fits { IfOk result (λ n. (n * row_size ≤ bytes) × (n ≡ zuniqs) × (n ≡ values)) }
 {
     if zuniqs != values {
-        return Rows::Refused(Refusal::LengthMismatch);
+        return Err(Refusal::LengthMismatch);
     }
-    if bytes < zuniqs * row_size {
-        return Rows::Refused(Refusal::NoSpace);
+    if bytes / row_size < zuniqs {
+        return Err(Refusal::NoSpace);
     }
-    Rows::Rows(zuniqs)
+    Ok(zuniqs)
 }

@@ -1,14 +1,15 @@
 -- Note 8 of the change requests: what the functions that count promise. The live entries stand in two buffers, as a map does; the last
 -- one ends where the last cell did.
-use Rattle.std.specs.Prelude.{◌≡◌, Bool, false, ◌&&◌, not, cond, List, ◌∷◌, ℕ, ◌+◌, ◌%◌, ◌^◌, ◌≤◌, ◌<◌, eqb, ltb, length}
+use Rattle.std.specs.Prelude.{◌≡◌, Bool, false, ◌&&◌, not, cond, List, [], ◌∷◌, ℕ, ◌+◌, ◌%◌, ◌^◌, ◌≤◌, ◌<◌, eqb, ltb, length}
+use Rattle.zuniq.specs.Cells.{n_hash}
 use Rattle.zuniq.specs.Codec.{IsZuniqOf}
 use Rattle.zuniq.specs.declared.Decoded.{Decoded}
 use Rattle.build.specs.Map.{Entry, Merger}
 use Rattle.build.specs.Buffers.{held}
 use Rattle.build.specs.Counts.{total_of}
-use Rattle.build.specs.Promises.{end_of}
+use Rattle.build.specs.Promises.{end_of, Rises}
 use Rattle.build.specs.Standing.{Stands}
-use Rattle.tally.specs.Tally.{Tally, tally_of, tallied}
+use Rattle.tally.specs.Tally.{Tally, tally_of, tallied, tally}
 use Rattle.tally.specs.declared.Running.{Running}
 
 -- the tally that the code holds
@@ -58,3 +59,20 @@ pub record Counted (accept : Merger ℕ) (t : Running) (e : Entry ℕ) (zs vs : 
   pub runs : Runs r zs' vs'
   pub cells : r.cells ≡ t.cells + 1
   pub is : tally_in r zs' vs' ≡ tallied accept 29 (tally_in t zs vs) e
+
+-- ---- cells one after the other
+-- The figures are those of the cells, and the buffers keep their lengths.
+pub record Tallies (accept : Merger ℕ) (zs₀ vs₀ : List ℕ) (cells : List (Entry ℕ)) (t : Running) (zs vs : List ℕ) : Type 0 where
+  pub runs : Runs t zs vs
+  pub number : t.cells ≡ length cells
+  pub is : tally_in t zs vs ≡ tally accept 29 (tally_of 0 []) cells
+  pub zuniqs : length zs ≡ length zs₀
+  pub values : length vs ≡ length vs₀
+
+-- What it takes to count the cells, one after the other: 88 places, cells that rise, and counts that fit.
+pub record CanTally (zs vs : List ℕ) (cells : List (Entry ℕ)) : Type 0 where
+  pub zuniqs : 87 < length zs
+  pub values : 87 < length vs
+  pub rises : Rises 29 0 (n_hash 29) cells
+  pub few : length cells ≤ n_hash 29
+  pub fits : total_of cells ≤ 4294967295

@@ -10,19 +10,19 @@
 
 ghost use Rattle.std.specs.Prelude.{◌≡◌, ◌+◌, ◌-◌, ◌^◌, ◌≤◌, ◌<◌, length, get_or};
 ghost use Rattle.zuniq.specs.Codec.{decode};
-ghost use Rattle.protection.specs.Protected.{RisingList};
 ghost use Rattle.merger.specs.Merge.{accept_counts};
 ghost use Rattle.build.specs.Map.{entry};
 ghost use Rattle.tally.specs.Running.{settled_with, reached_by, lone_at, last_at, CanCount, Counted};
 
-use build_counts::push;
-use zuniq::{Decoded, Zuniq64};
+use build::stack::push;
+use merger::CountMerger;
+use zuniq::{DIM, Decoded, ZUniqHashT};
 
 // The places that the live entries need: one more than there can be, for the cell that is counted.
 pub const PLACES: usize = 88;
 
 // The figures so far.
-#[derive(Clone, Copy)]
+#[derive(Clone, Copy, Debug, PartialEq, Eq)]
 pub struct Running {
     // Cells.
     pub cells: usize,
@@ -49,14 +49,12 @@ pub fn count(
     hash: u64,
     zuniq: u64,
     value: u32,
-    depth_threshold: u8,
-    chi2_threshold: f64,
-    protected: &[u64],
+    merger: &CountMerger<u64>,
     zuniqs: &mut [u64],
     counts: &mut [u32],
 ) -> Running
-    requires { CanCount running zuniq (entry depth hash value) zuniqs.old counts.old × RisingList protected.now }
-    ensures { Counted (accept_counts 29 protected.now depth_threshold chi2_threshold) running (entry depth hash value) zuniqs.old counts.old result zuniqs.new counts.new }
+    requires { CanCount running zuniq (entry depth hash value) zuniqs.old counts.old }
+    ensures { Counted (accept_counts 29 merger.now.protected.zuniqs.now merger.now.depth_threshold merger.now.chi2_threshold) running (entry depth hash value) zuniqs.old counts.old result zuniqs.new counts.new }
 {
     let size = width(depth);
     let first = hash * size;
@@ -65,6 +63,7 @@ pub fn count(
         return settle(before, 1);
     }
     let live = push(
+        merger,
         zuniqs,
         counts,
         before.live,
@@ -72,19 +71,11 @@ pub fn count(
         hash,
         zuniq,
         value,
-        depth_threshold,
-        chi2_threshold,
-        protected,
     );
-    if is_last(&zuniqs[..], live, hash) {
+    if is_last(zuniqs, live, hash) {
         return settle(before, live);
     }
-    Running {
-        cells: before.cells,
-        settled: before.settled,
-        live,
-        end: before.end,
-    }
+    Running { live, ..before }
 }
 
 // The figures with a cell more: if it does not start where the one before ended, all live entries are
@@ -95,9 +86,8 @@ fn reached(running: Running, first: u64, end: u64) -> Running
 {
     let next = Running {
         cells: running.cells + 1,
-        settled: running.settled,
-        live: running.live,
         end,
+        ..running
     };
     if first == running.end {
         return next;
@@ -111,10 +101,9 @@ fn settle(running: Running, entries: usize) -> Running
     ensures { result ≡ settled_with running entries }
 {
     Running {
-        cells: running.cells,
         settled: running.settled + entries,
         live: 0,
-        end: running.end,
+        ..running
     }
 }
 
@@ -142,7 +131,7 @@ fn is_last(zuniqs: &[u64], n: usize, hash: u64) -> bool
     if hash % 4 != 3 {
         return false;
     }
-    let Decoded::Cell(last) = Zuniq64::from_zuniq(zuniqs[n - 1]) else {
+    let Decoded::Cell(last) = u64::from_zuniq(zuniqs[n - 1]) else {
         return false;
     };
     if n > 1 {
@@ -156,5 +145,5 @@ fn width(depth: u8) -> u64
     requires { depth ≤ 29 }
     ensures { result ≡ 4 ^ (29 - depth) }
 {
-    1 << (Zuniq64::DIM * (Zuniq64::MAX_DEPTH - depth))
+    1 << (DIM * (u64::MAX_DEPTH - depth))
 }

@@ -13,23 +13,23 @@ use borrow.Author.Tests.{lt-ltb, le-ltb, le-leb, lt-leb, leb-true, leb-false}
 use Rattle.io.specs.Digits.{last_digits, IsDigitCount}
 use Rattle.text.specs.Text.{is_digit, are_digits, value_from, is_number, number, digits_up_to, decimal}
 use Rattle.text.specs.Text.{longer}
-use Rattle.text.specs.declared.Number.{Number}
+use Rattle.std.specs.Prelude.{Option, Some, None}
 
 -- ---- reading
 -- the number that the digits of l make behind those of n, if they are digits and it is not too large
-unfoldable pub number_from : ℕ → ℕ → List ℕ → Number
-number_from most n l = cond (are_digits l && leb (value_from n l) most) (Number.Value (value_from n l)) Number.Unreadable
+unfoldable pub number_from : ℕ → ℕ → List ℕ → Option ℕ
+number_from most n l = cond (are_digits l && leb (value_from n l) most) (Some (value_from n l)) None
 
 -- A field of 1 to 20 bytes is read digit by digit.
 pub number_from-0 : (most : ℕ) (l : List ℕ) → 1 ≤ length l → length l ≤ 20 → number most l ≡ number_from most 0 l
 unfolding number is_number number_from
 number_from-0 most l p q = rw (le-leb 1 (length l) p, le-leb (length l) 20 q) refl
 
-pub number-of_none : (most : ℕ) (l : List ℕ) → length l ≡ 0 → number most l ≡ Number.Unreadable
+pub number-of_none : (most : ℕ) (l : List ℕ) → length l ≡ 0 → number most l ≡ None
 unfolding number is_number
 number-of_none most l p = rw (lt-leb 1 (length l) (omega arith)) refl
 
-pub number-of_many : (most : ℕ) (l : List ℕ) → 20 < length l → number most l ≡ Number.Unreadable
+pub number-of_many : (most : ℕ) (l : List ℕ) → 20 < length l → number most l ≡ None
 unfolding number is_number
 number-of_many most l p = rw (le-leb 1 (length l) (omega arith), lt-leb (length l) 20 p) refl
 
@@ -44,27 +44,27 @@ and-false true = refl
 and-false false = refl
 
 -- What the next digit makes of it.
-pub from_next : (most n x : ℕ) (l : List ℕ) (m : ℕ) → longer most n x ≡ Number.Value m → number_from most n (x ∷ l) ≡ number_from most m l
+pub from_next : (most n x : ℕ) (l : List ℕ) (m : ℕ) → longer most n x ≡ Some m → number_from most n (x ∷ l) ≡ number_from most m l
 unfolding number_from longer are_digits value_from
 from_next most n x l m e = by (is_digit x) refl (leb (10 * n + (x - 48)) most) refl e
   where
     by : (d : Bool) → is_digit x ≡ d → (b : Bool) → leb (10 * n + (x - 48)) most ≡ b
-        → cond (d && b) (Number.Value (10 * n + (x - 48))) Number.Unreadable ≡ Number.Value m
-        → cond ((d && are_digits l) && leb (value_from (10 * n + (x - 48)) l) most) (Number.Value (value_from (10 * n + (x - 48)) l)) Number.Unreadable
-        ≡ cond (are_digits l && leb (value_from m l) most) (Number.Value (value_from m l)) Number.Unreadable
+        → cond (d && b) (Some (10 * n + (x - 48))) None ≡ Some m
+        → cond ((d && are_digits l) && leb (value_from (10 * n + (x - 48)) l) most) (Some (value_from (10 * n + (x - 48)) l)) None
+        ≡ cond (are_digits l && leb (value_from m l) most) (Some (value_from m l)) None
     by true p true q e = let s : 10 * n + (x - 48) ≡ m = cc in rw s refl
     by true p false q e = let z : ◌≡◌ {A = ℕ} 0 1 = cc in absurd (omega arith)
     by false p b q e = let z : ◌≡◌ {A = ℕ} 0 1 = cc in absurd (omega arith)
 
 -- Behind what is no digit or makes the number too large nothing is read.
-pub from_stops : (most n x : ℕ) (l : List ℕ) → longer most n x ≡ Number.Unreadable → number_from most n (x ∷ l) ≡ Number.Unreadable
+pub from_stops : (most n x : ℕ) (l : List ℕ) → longer most n x ≡ None → number_from most n (x ∷ l) ≡ None
 unfolding number_from longer are_digits value_from
 from_stops most n x l e = by (is_digit x) refl (leb (10 * n + (x - 48)) most) refl e
   where
     by : (d : Bool) → is_digit x ≡ d → (b : Bool) → leb (10 * n + (x - 48)) most ≡ b
-        → cond (d && b) (Number.Value (10 * n + (x - 48))) Number.Unreadable ≡ Number.Unreadable
-        → cond ((d && are_digits l) && leb (value_from (10 * n + (x - 48)) l) most) (Number.Value (value_from (10 * n + (x - 48)) l)) Number.Unreadable
-        ≡ Number.Unreadable
+        → cond (d && b) (Some (10 * n + (x - 48))) None ≡ None
+        → cond ((d && are_digits l) && leb (value_from (10 * n + (x - 48)) l) most) (Some (value_from (10 * n + (x - 48)) l)) None
+        ≡ None
     by true p true q e = let z : ◌≡◌ {A = ℕ} 0 1 = cc in absurd (omega arith)
     by true p false q e =
         let u = leb-false (10 * n + (x - 48)) most q in
@@ -72,37 +72,37 @@ from_stops most n x l e = by (is_digit x) refl (leb (10 * n + (x - 48)) most) re
     by false p b q e = refl
 
 -- The end of the field.
-pub from_end : (most n : ℕ) → n ≤ most → number_from most n [] ≡ Number.Value n
+pub from_end : (most n : ℕ) → n ≤ most → number_from most n [] ≡ Some n
 unfolding number_from are_digits value_from
 from_end most n p = rw (le-leb n most p) refl
 
-pub longer-le : (most n x m : ℕ) → longer most n x ≡ Number.Value m → m ≤ most
+pub longer-le : (most n x m : ℕ) → longer most n x ≡ Some m → m ≤ most
 unfolding longer
 longer-le most n x m e = by (is_digit x) refl (leb (10 * n + (x - 48)) most) refl e
   where
     by : (d : Bool) → is_digit x ≡ d → (b : Bool) → leb (10 * n + (x - 48)) most ≡ b
-        → cond (d && b) (Number.Value (10 * n + (x - 48))) Number.Unreadable ≡ Number.Value m → m ≤ most
+        → cond (d && b) (Some (10 * n + (x - 48))) None ≡ Some m → m ≤ most
     by true p true q e = let s : 10 * n + (x - 48) ≡ m = cc in omega (arith, leb-true (10 * n + (x - 48)) most q)
     by true p false q e = let z : ◌≡◌ {A = ℕ} 0 1 = cc in absurd (omega arith)
     by false p b q e = let z : ◌≡◌ {A = ℕ} 0 1 = cc in absurd (omega arith)
 
 -- The same at the i-th byte of a field.
 module _ (most n : ℕ) (l : List ℕ) (i : ℕ) where
-  pub drop-next : (m : ℕ) → i < length l → longer most n (get_or l i 0) ≡ Number.Value m → number_from most n (drop i l) ≡ number_from most m (drop (i + 1) l)
+  pub drop-next : (m : ℕ) → i < length l → longer most n (get_or l i 0) ≡ Some m → number_from most n (drop i l) ≡ number_from most m (drop (i + 1) l)
   drop-next m p e = rw (drop-cons l i 0 p, add-one i) (from_next most n (get_or l i 0) (drop (suc i) l) m e)
 
-  pub drop-stops : i < length l → longer most n (get_or l i 0) ≡ Number.Unreadable → number_from most n (drop i l) ≡ Number.Unreadable
+  pub drop-stops : i < length l → longer most n (get_or l i 0) ≡ None → number_from most n (drop i l) ≡ None
   drop-stops p e = rw (drop-cons l i 0 p) (from_stops most n (get_or l i 0) (drop (suc i) l) e)
 
-  pub drop-end : length l ≤ i → n ≤ most → number_from most n (drop i l) ≡ Number.Value n
+  pub drop-end : length l ≤ i → n ≤ most → number_from most n (drop i l) ≡ Some n
   drop-end p q = rw (drop_of_length-le l p) (from_end most n q)
 
 -- A number that is read is not too large.
-pub number-le : (most : ℕ) (l : List ℕ) (m : ℕ) → number most l ≡ Number.Value m → m ≤ most
+pub number-le : (most : ℕ) (l : List ℕ) (m : ℕ) → number most l ≡ Some m → m ≤ most
 unfolding number
 number-le most l m e = by (is_number l) (leb (value_from 0 l) most) refl e
   where
-    by : (d b : Bool) → leb (value_from 0 l) most ≡ b → cond (d && b) (Number.Value (value_from 0 l)) Number.Unreadable ≡ Number.Value m → m ≤ most
+    by : (d b : Bool) → leb (value_from 0 l) most ≡ b → cond (d && b) (Some (value_from 0 l)) None ≡ Some m → m ≤ most
     by true true q e = let s : value_from 0 l ≡ m = cc in omega (arith, leb-true (value_from 0 l) most q)
     by true false q e = let z : ◌≡◌ {A = ℕ} 0 1 = cc in absurd (omega arith)
     by false b q e = let z : ◌≡◌ {A = ℕ} 0 1 = cc in absurd (omega arith)

@@ -1,17 +1,13 @@
 -- The laws of writing a text into a buffer. Assumes nothing.
 use mathlib.Core.Path.{◌≡◌, refl, ap, sym, ◌∙◌}
-use mathlib.Core.List.{List, [], ◌++◌, append_assoc, append-nil}
-use Prim.Native.Nat.{ℕ, ◌+◌, ◌≤◌, ◌<◌}
+use mathlib.Core.List.{List, ◌++◌, append_assoc}
+use Prim.Native.Nat.{ℕ, ◌+◌, ◌-◌, ◌≤◌, ◌<◌}
 use native.Mathlib.Omega.{arith}
-use native.Mathlib.Numerals.{add-one}
-use lib.ListN.{length, take, drop, set, get_or, length-append, length-take}
-use lib.Seq.{paste, paste-suc, length-paste, take-paste, drop-paste, take-length, drop-drop}
+use lib.ListN.{length, take, drop, length-append}
+use lib.Seq.{paste, length-paste, take-paste, drop-paste, take-length, drop-drop}
+use borrow.Rule.Slice.PartMut.{put_mid}
 use borrow.Author.Tests.{le-leb, lt-leb}
 use Rattle.text.specs.Text.{put_at, Written}
-
--- One byte more.
-pub paste-next : (d : List ℕ) (at : ℕ) (s : List ℕ) (i : ℕ) → at + i < length d → i < length s → set (paste d at s i) (at + i) (get_or s i 0) ≡ paste d at s (i + 1)
-paste-next d at s i p q = rw (add-one i) (paste-suc d at s i 0 p q)
 
 -- A text that fits.
 pub put_fits : (d : List ℕ) (at : ℕ) (t : List ℕ) → at + length t ≤ length d → ((take at d ++ t) ++ drop (at + length t) d, at + length t) ≡ put_at d at t
@@ -23,11 +19,11 @@ pub put_beyond : (d : List ℕ) (at : ℕ) (t : List ℕ) → length d < at + le
 unfolding put_at
 put_beyond d at t p = rw (lt-leb (at + length t) (length d) p) refl
 
--- All of its bytes.
-pub pasted : (d : List ℕ) (at : ℕ) (t e : List ℕ) (i : ℕ) → at + i ≤ length d → i ≡ length t → e ≡ paste d at t i → (e, at + i) ≡ put_at d at t
-pasted d at t e i p q r =
-    let whole : e ≡ (take at d ++ t) ++ drop (at + length t) d = r ∙ rw (q, take-length t) refl in
-    rw (whole, q) (put_fits d at t (omega arith))
+-- Its bytes copied to the places between.
+pub put_between : (d : List ℕ) (at : ℕ) (t : List ℕ) {e : List ℕ} → e ≡ t → at + length t ≤ length d → (put_mid at (at + length t - at) d e, at + length t) ≡ put_at d at t
+put_between d at t {e} q p =
+    let room : at + length t - at ≡ length t = omega arith in
+    rw (q, room, drop-drop (length t) at d, ← append_assoc (take at d) t (drop (at + length t) d)) (put_fits d at t p)
 
 -- What fits is written.
 pub put_written : {d e t : List ℕ} {at m : ℕ} → (e, m) ≡ put_at d at t → at + length t ≤ length d → Written d at t e m
@@ -47,10 +43,6 @@ put_written {d} {e} {t} {at} {m} q p = record {
     end : m ≡ at + length t
     end = ap (λ (x : List ℕ × ℕ). x.1) both
 
--- Nothing written.
-pub Written-nothing : (d : List ℕ) (at : ℕ) → Written d at [] d at
-Written-nothing d at = record { same_length = refl; end_is = omega arith; front = sym (append-nil (take at d)); rest = refl }
-
 -- One text behind another.
 pub written_on : {d e f t u : List ℕ} {at m n : ℕ} → Written d at t e m → Written e m u f n → Written d at (t ++ u) f n
 written_on {d} {e} {f} {t} {u} {at} {m} {n} w v = record {
@@ -66,7 +58,3 @@ written_on {d} {e} {f} {t} {u} {at} {m} {n} w v = record {
 -- The same text by another name.
 pub written_as : {d e t u : List ℕ} {at m : ℕ} → t ≡ u → Written d at t e m → Written d at u e m
 written_as {d} {e} {t} {u} {at} {m} q w = rw (sym q) w
-
--- What is written at the front ends within the buffer.
-pub Written-within : {d e t : List ℕ} {m : ℕ} → Written d 0 t e m → m ≤ length e
-Written-within {d} {e} {t} {m} w = omega (arith, w.end_is, ap length w.front, length-take m e)

@@ -1,6 +1,6 @@
 -- Section 7 of the scope: numbers in a text, read and printed. A text is a list of bytes.
-use Rattle.std.specs.Prelude.{◌≡◌, Bool, true, ◌&&◌, cond, List, [], ◌∷◌, ◌++◌, ℕ, zero, suc, ◌+◌, ◌*◌, ◌-◌, ◌/◌, ◌%◌, eqb, leb, ltb, length, take, drop}
-use Rattle.text.specs.declared.Number.{Number}
+use Rattle.std.specs.Prelude.{◌≡◌, Bool, true, ◌&&◌, cond, Option, Some, None, List, [], ◌∷◌, ◌++◌, ℕ, zero, suc, ◌+◌, ◌*◌, ◌-◌, ◌/◌, ◌%◌, ◌<◌, eqb, leb, ltb, length, take, drop}
+use Rattle.text.specs.declared.Output.{Output}
 
 -- the bytes that part a text
 abbrev pub lf : ℕ
@@ -22,6 +22,12 @@ up_to b l = take (position b l) l
 unfoldable pub past : ℕ → List ℕ → List ℕ
 past b l = drop (position b l + 1) l
 
+-- The two parts of a text round the first b.
+pub record SplitAtFirst (b : ℕ) (l before behind : List ℕ) : Type 0 where
+  pub there : position b l < length l
+  pub before_is : before ≡ up_to b l
+  pub behind_is : behind ≡ past b l
+
 -- ---- reading
 abbrev pub is_digit : ℕ → Bool
 is_digit x = leb 48 x && leb x 57
@@ -40,12 +46,12 @@ unfoldable pub is_number : List ℕ → Bool
 is_number l = leb 1 (length l) && (leb (length l) 20 && are_digits l)
 
 -- the number that a field holds, "one too large" being unreadable
-unfoldable pub number : ℕ → List ℕ → Number
-number most l = cond (is_number l && leb (value_from 0 l) most) (Number.Value (value_from 0 l)) Number.Unreadable
+unfoldable pub number : ℕ → List ℕ → Option ℕ
+number most l = cond (is_number l && leb (value_from 0 l) most) (Some (value_from 0 l)) None
 
 -- a number with one more digit behind it, if x is one
-unfoldable pub longer : ℕ → ℕ → ℕ → Number
-longer most n x = cond (is_digit x && leb (10 * n + (x - 48)) most) (Number.Value (10 * n + (x - 48))) Number.Unreadable
+unfoldable pub longer : ℕ → ℕ → ℕ → Option ℕ
+longer most n x = cond (is_digit x && leb (10 * n + (x - 48)) most) (Some (10 * n + (x - 48))) None
 
 -- ---- printing
 -- the digits of n, none in front being 0 unless it is the only one; at most k of them
@@ -69,3 +75,7 @@ pub record Written (before : List ℕ) (at : ℕ) (text after : List ℕ) (end :
   pub end_is : end ≡ at + length text
   pub front : take end after ≡ take at before ++ text
   pub rest : drop end after ≡ drop end before
+
+-- What an output comes to once a text is written to it: the text stands behind what was written.
+abbrev pub Appends : (before : Output) (text : List ℕ) (after : Output) → Type 0
+Appends before text after = Written before.buffer.now before.end text after.buffer.now after.end

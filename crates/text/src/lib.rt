@@ -2,14 +2,12 @@
 // into one.
 //
 // A number is read from a field of 1 to 20 digits, and is unreadable where it is larger than its
-// field allows. It is written with its digits alone. What is written goes to a place of a lent
-// buffer, and each call answers the place behind it. What does not fit there is not written, not
-// even its first bytes.
+// field allows. It is written with its digits alone. What is written goes behind what an output
+// holds. What does not fit there is not written, not even its first bytes.
 #![tactic(auto)]
 
-ghost use Rattle.std.specs.Prelude.{◌≡◌};
-ghost use Rattle.io.specs.Counts.{IsPrefixLen};
-ghost use Rattle.text.specs.Text.{position, number, longer as longer_of, decimal, put_at};
+ghost use Rattle.std.specs.Prelude.{◌≡◌, length, MatchOption};
+ghost use Rattle.text.specs.Text.{position, SplitAtFirst, number, longer as longer_of, decimal, put_at};
 
 // The byte that ends a line, and the one that parts its fields.
 pub const LF: u8 = b'\n';
@@ -18,93 +16,75 @@ pub const COMMA: u8 = b',';
 
 const MAX_DIGITS: usize = 20;
 
-// What a field holds.
-#[derive(Clone, Copy)]
-pub enum Number {
-    Value(u64),
-    Unreadable,
-}
-
-// How many bytes stand before the first `byte`; all of them where there is none.
-pub fn find(text: &[u8], byte: u8) -> usize
-    ensures value { result ≡ position byte text.now }
-    ensures prefix_len { IsPrefixLen result text.now }
+// What stands before the first `byte`, and what stands behind it, if there is one.
+pub fn split_once(text: &[u8], byte: u8) -> Option<(&[u8], &[u8])>
+    ensures { MatchOption result (position byte text.now ≡ length text.now)
+        (λ parts. SplitAtFirst byte text.now parts.0.now parts.1.now) }
 {
-    for i in 0..text.len() {
-        if text[i] == byte {
-            return i;
-        }
-    }
-    text.len()
+    let at = text.iter().position(|b| *b == byte)?;
+    Some((&text[..at], &text[at + 1..]))
 }
 
 // The number of a field, at most `most`.
-pub fn read_number(field: &[u8], most: u64) -> Number
+pub fn read_number(field: &[u8], most: u64) -> Option<u64>
     ensures { result ≡ number most field.now }
 {
-    if field.len() == 0 {
-        return Number::Unreadable;
+    if field.is_empty() || field.len() > MAX_DIGITS {
+        return None;
     }
-    if field.len() > MAX_DIGITS {
-        return Number::Unreadable;
+    let mut value = 0;
+    for digit in field {
+        value = with_digit(value, *digit, most)?;
     }
-    let mut value: u64 = 0;
-    let mut i = 0;
-    while i < field.len() {
-        let Number::Value(longer) = with_digit(value, field[i], most) else {
-            return Number::Unreadable;
-        };
-        value = longer;
-        i += 1;
-    }
-    Number::Value(value)
+    Some(value)
 }
 
 // A number with one more digit behind it, if that is one and the number is not too large.
-fn with_digit(value: u64, digit: u8, most: u64) -> Number
+#[tactic(auto, using(std::proofs::lemmas::Bool::Decides::nat_tests), unfolding(crate::specs::Text::longer))]
+fn with_digit(value: u64, digit: u8, most: u64) -> Option<u64>
     ensures { result ≡ longer_of most «value» «digit» }
 {
-    if digit < b'0' {
-        return Number::Unreadable;
+    if !digit.is_ascii_digit() {
+        return None;
     }
-    if digit > b'9' {
-        return Number::Unreadable;
+    let longer = value.checked_mul(10)?.checked_add(u64::from(digit - b'0'))?;
+    if longer > most {
+        return None;
     }
-    let units = (digit - b'0') as u64;
-    if units > most {
-        return Number::Unreadable;
-    }
-    // The product could wrap; the quotient can't.
-    if value > (most - units) / 10 {
-        return Number::Unreadable;
-    }
-    Number::Value(10 * value + units)
+    Some(longer)
 }
 
-// Writes a text at a place, if it fits there.
-pub fn put(output: &mut [u8], at: usize, text: &[u8]) -> usize
-    ensures { (output.new, result) ≡ put_at output.old at text.now }
-{
-    if at > output.len() {
-        return at;
-    }
-    // The sum of place and length could wrap; the space behind the place can't.
-    if text.len() > output.len() - at {
-        return at;
-    }
-    let mut i = 0;
-    while i < text.len() {
-        output[at + i] = text[i];
-        i += 1;
-    }
-    at + i
+// A lent buffer, and the place up to which it is written. What fits is always written: a `Vec` or a
+// `String` may get no memory, and `write!` doesn't say when it fails.
+#[derive(Drop)]
+pub struct Output<'a> {
+    pub buffer: &'a mut [u8],
+    pub end: usize,
 }
 
-// Writes a number at a place, if it fits there.
-pub fn put_number(output: &mut [u8], at: usize, n: u64) -> usize
-    ensures { (output.new, result) ≡ put_at output.old at (decimal n) }
-{
-    let mut digits = [0u8; MAX_DIGITS];
-    let len = io::decimal(n, &mut digits);
-    put(output, at, &digits[..len])
+impl Output<'_> {
+    // Writes a text behind what is written, if it fits there.
+    pub fn put(&mut self, text: &[u8])
+        ensures same_buffer { self.new.buffer.ghost_name ≡ self.old.buffer.ghost_name }
+        ensures put { (self.new.buffer.now, self.new.end) ≡ put_at self.old.buffer.now self.old.end text.now }
+    {
+        let Some(end) = self.end.checked_add(text.len()) else {
+            return;
+        };
+        if end > self.buffer.len() {
+            return;
+        }
+        self.buffer[self.end..end].copy_from_slice(text);
+        self.end = end;
+    }
+
+    // Writes a number behind what is written, if it fits there.
+    pub fn put_number(&mut self, n: u64)
+        ensures same_buffer { self.new.buffer.ghost_name ≡ self.old.buffer.ghost_name }
+        ensures put { (self.new.buffer.now, self.new.end) ≡ put_at self.old.buffer.now self.old.end (decimal n) }
+    {
+        let mut digits = [0u8; MAX_DIGITS];
+        let len = io::decimal(n, &mut digits);
+        self.put(&digits[..len]);
+    }
 }

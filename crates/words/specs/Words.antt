@@ -1,43 +1,24 @@
 -- The answer words of the C functions, and what a call leaves behind its `&mut` numbers: "extern "C" entry points for the
 -- Rust ingest process and the differential runs". A refusal, or that there is nothing, leaves them as they were. Each is read off what
 -- the answer tells in the scope's terms.
-use Rattle.std.specs.Prelude.{Bool, true, false, ℕ, ◌+◌, ◌*◌, ◌%◌, ◌^◌, Float}
-use Rattle.std.proofs.Math.Option.{Option, none, some}
+use Rattle.std.specs.Prelude.{Bool, true, false, ℕ, ◌+◌, ◌*◌, ◌%◌, ◌^◌, Float, Option, None, Some, Result}
 use Rattle.refusal.specs.Refusals.{number_of, place_of}
-use Rattle.refusal.specs.Told.{Told}
+use Rattle.refusal.specs.Told.{Told, told}
 use Rattle.refusal.specs.declared.Refusal.{Refusal}
-use Rattle.zuniq.specs.Told.{told_cells, told_zuniq, told_zuniq32, told_cell, told_cell32, told_overlap}
-use Rattle.zuniq.specs.declared.CellNumber.{CellNumber}
-use Rattle.zuniq.specs.declared.Encoded.{Encoded}
+use Rattle.zuniq.specs.Told.{told_cell}
 use Rattle.zuniq.specs.declared.Decoded.{Decoded}
-use Rattle.zuniq.specs.declared.Overlap.{Overlap}
-use Rattle.zuniq.specs.declared.narrow.Encoded32.{Encoded32}
-use Rattle.zuniq.specs.declared.narrow.Decoded32.{Decoded32}
-use Rattle.merger.specs.Told.{Four, told_count_merger, told_density_merger}
-use Rattle.merger.specs.declared.CountMerger.{CountMerger}
-use Rattle.merger.specs.declared.DensityMerger.{DensityMerger}
-use Rattle.mom.specs.Told.{fault_number, told_check, told_containing, told_run}
+use Rattle.merger.specs.Told.{Four, told_merger}
+use Rattle.merger.specs.declared.Merge.{Merge}
+use Rattle.mom.specs.Told.{fault_number, told_check, told_run}
 use Rattle.mom.specs.declared.Fault.{Fault}
-use Rattle.mom.specs.declared.MapCheck.{MapCheck}
-use Rattle.mom.specs.declared.lookup.Containing.{Containing}
+use Rattle.mom.specs.declared.FirstFault.{FirstFault}
 use Rattle.mom.specs.declared.lookup.Run.{Run}
-use Rattle.build.specs.Told.{told_counts, told_densities}
-use Rattle.build.specs.declared.counts.CountsAdded.{CountsAdded}
-use Rattle.build.specs.declared.densities.DensitiesAdded.{DensitiesAdded}
+use Rattle.build.specs.Told.{told_counts}
+use Rattle.build.specs.declared.counts.Added.{Added}
 use Rattle.combine.specs.Told.{told_asked}
-use Rattle.combine.specs.declared.counts.Asked.{Asked}
+use Rattle.combine.specs.declared.counts.Figures.{Figures}
 use Rattle.moving.specs.Told.{told_moved}
 use Rattle.moving.specs.declared.Moved.{Moved}
-use Rattle.coverage.specs.Told.{told_covered}
-use Rattle.coverage.specs.declared.Covered.{Covered}
-use Rattle.clip.specs.Told.{told_clipped}
-use Rattle.clip.specs.declared.Clipped.{Clipped}
-use Rattle.rows.specs.Told.{told_rows}
-use Rattle.rows.specs.declared.Rows.{Rows}
-use Rattle.density.specs.Told.{told_count_density, told_density, told_pattern}
-use Rattle.density.specs.declared.CountDensity.{CountDensity}
-use Rattle.density.specs.declared.PatternDensity.{PatternDensity}
-use Rattle.density.specs.declared.DensityPattern.{DensityPattern}
 
 -- the high byte says what the word is, the low 56 bits are the answer or the place
 abbrev pub word_of : ℕ → ℕ → ℕ
@@ -75,29 +56,28 @@ both_word (Told.answer t) old = (word_of accepted t.0, t.1)
 
 -- the answer goes beside the word, or there is none
 abbrev pub beside_if_any : {X : Type 0} → Option X → X → ℕ × X
-beside_if_any none old = (word_of nothing 0, old)
-beside_if_any (some x) old = (word_of accepted 0, x)
+beside_if_any None old = (word_of nothing 0, old)
+beside_if_any (Some x) old = (word_of accepted 0, x)
 
 -- ---- the words
-unfoldable pub cell_number_word : CellNumber → ℕ → ℕ × ℕ
-cell_number_word a old = beside_word (told_cells a) old
+-- a value, whatever its type
+unfoldable pub value_word : {X : Type 0} → Result X Refusal → X → ℕ × X
+value_word a old = beside_word (told a) old
 
-unfoldable pub encoded_word : Encoded → ℕ → ℕ × ℕ
-encoded_word a old = beside_word (told_zuniq a) old
+unfoldable pub found_word : {X : Type 0} → Option X → X → ℕ × X
+found_word a old = beside_if_any a old
 
-unfoldable pub encoded32_word : Encoded32 → ℕ → ℕ × ℕ
-encoded32_word a old = beside_word (told_zuniq32 a) old
+-- a number of entries, ranges or rows: "Both row calls answer the number of rows", "Both answer the number of cells or ranges"
+unfoldable pub number_word : Result ℕ Refusal → ℕ
+number_word a = in_word (told a)
 
 -- the cell goes through two numbers
 abbrev pub cell_word : Option (ℕ × ℕ) → ℕ → ℕ → ℕ × ℕ × ℕ
-cell_word none depth hash = (word_of nothing 0, depth, hash)
-cell_word (some c) depth hash = (word_of accepted 0, c.0, c.1)
+cell_word None depth hash = (word_of nothing 0, depth, hash)
+cell_word (Some c) depth hash = (word_of accepted 0, c.0, c.1)
 
 unfoldable pub decoded_word : Decoded → ℕ → ℕ → ℕ × ℕ × ℕ
 decoded_word a depth hash = cell_word (told_cell a) depth hash
-
-unfoldable pub decoded32_word : Decoded32 → ℕ → ℕ → ℕ × ℕ × ℕ
-decoded32_word a depth hash = cell_word (told_cell32 a) depth hash
 
 -- 1 or 0
 abbrev pub yes_word : Told Bool → ℕ
@@ -105,8 +85,8 @@ yes_word (Told.refused number place) = word_of number place
 yes_word (Told.answer true) = word_of accepted 1
 yes_word (Told.answer false) = word_of accepted 0
 
-unfoldable pub overlap_word : Overlap → ℕ
-overlap_word a = yes_word (told_overlap a)
+unfoldable pub overlap_word : Result Bool Refusal → ℕ
+overlap_word a = yes_word (told a)
 
 -- the merged count is in the word, chi beside it
 abbrev pub count_four_word : Told (Four ℕ) → Float → ℕ × Float
@@ -114,8 +94,8 @@ count_four_word (Told.refused number place) old = (word_of number place, old)
 count_four_word (Told.answer (Four.merged n)) old = (word_of accepted n, old)
 count_four_word (Told.answer (Four.kept chi)) old = (word_of kept 0, chi)
 
-unfoldable pub count_merger_word : CountMerger → Float → ℕ × Float
-count_merger_word a old = count_four_word (told_count_merger a) old
+unfoldable pub count_merger_word : Result (Merge ℕ) Refusal → Float → ℕ × Float
+count_merger_word a old = count_four_word (told_merger a) old
 
 -- the merged density and chi are both beside it
 abbrev pub density_four_word : Told (Four Float) → Float → ℕ × Float
@@ -123,8 +103,8 @@ density_four_word (Told.refused number place) old = (word_of number place, old)
 density_four_word (Told.answer (Four.merged m)) old = (word_of accepted 0, m)
 density_four_word (Told.answer (Four.kept chi)) old = (word_of kept 0, chi)
 
-unfoldable pub density_merger_word : DensityMerger → Float → ℕ × Float
-density_merger_word a old = density_four_word (told_density_merger a) old
+unfoldable pub density_merger_word : Result (Merge Float) Refusal → Float → ℕ × Float
+density_merger_word a old = density_four_word (told_merger a) old
 
 -- a fault has a kind of its own, 67 to 70
 abbrev pub fault_kind : Fault → ℕ
@@ -133,37 +113,34 @@ fault_kind fault = 66 + fault_number fault
 -- and the word holds its place
 abbrev pub fault_word : Told (Option (ℕ × ℕ)) → ℕ
 fault_word (Told.refused number place) = word_of number place
-fault_word (Told.answer none) = word_of accepted 0
-fault_word (Told.answer (some t)) = word_of (66 + t.1) t.0
+fault_word (Told.answer None) = word_of accepted 0
+fault_word (Told.answer (Some t)) = word_of (66 + t.1) t.0
 
-unfoldable pub map_check_word : MapCheck → ℕ
+unfoldable pub map_check_word : Result (Option FirstFault) Refusal → ℕ
 map_check_word a = fault_word (told_check a)
 
 -- the place, or that there is none
 abbrev pub place_word : Told (Option ℕ) → ℕ
 place_word (Told.refused number place) = word_of number place
-place_word (Told.answer none) = word_of nothing 0
-place_word (Told.answer (some place)) = word_of accepted place
+place_word (Told.answer None) = word_of nothing 0
+place_word (Told.answer (Some place)) = word_of accepted place
 
-unfoldable pub containing_word : Containing → ℕ
-containing_word a = place_word (told_containing a)
+unfoldable pub containing_word : Result (Option ℕ) Refusal → ℕ
+containing_word a = place_word (told a)
 
-unfoldable pub run_word : Run → ℕ → ℕ × ℕ
+unfoldable pub run_word : Result Run Refusal → ℕ → ℕ × ℕ
 run_word a old = both_word (told_run a) old
 
--- the number of entries, and for counts their total
-unfoldable pub counts_word : CountsAdded → ℕ → ℕ × ℕ
+-- the number of entries, and their total
+unfoldable pub counts_word : Result Added Refusal → ℕ → ℕ × ℕ
 counts_word a old = both_word (told_counts a) old
-
-unfoldable pub densities_word : DensitiesAdded → ℕ
-densities_word a = in_word (told_densities a)
 
 -- the figures of a pool that is asked for go through three numbers
 abbrev pub figures_word : Told (ℕ × ℕ × ℕ) → ℕ → ℕ → ℕ → ℕ × ℕ × ℕ × ℕ
 figures_word (Told.refused number place) cells entries total = (word_of number place, cells, entries, total)
 figures_word (Told.answer t) cells entries total = (word_of accepted 0, t.0, t.1, t.2)
 
-unfoldable pub asked_word : Asked → ℕ → ℕ → ℕ → ℕ × ℕ × ℕ × ℕ
+unfoldable pub asked_word : Result Figures Refusal → ℕ → ℕ → ℕ → ℕ × ℕ × ℕ × ℕ
 asked_word a cells entries total = figures_word (told_asked a) cells entries total
 
 -- the depth and the number of entries of a map that is moved: the number is in the word, as it is of all calls that leave a map
@@ -171,25 +148,5 @@ abbrev pub depth_beside : Told (ℕ × ℕ) → Told (ℕ × ℕ)
 depth_beside (Told.refused number place) = Told.refused number place
 depth_beside (Told.answer t) = Told.answer (t.1, t.0)
 
-unfoldable pub moved_word : Moved → ℕ → ℕ × ℕ
+unfoldable pub moved_word : Result Moved Refusal → ℕ → ℕ × ℕ
 moved_word a old = both_word (depth_beside (told_moved a)) old
-
--- "Both answer the number of cells or ranges"
-unfoldable pub covered_word : Covered → ℕ
-covered_word a = in_word (told_covered a)
-
-unfoldable pub clipped_word : Clipped → ℕ
-clipped_word a = in_word (told_clipped a)
-
--- "Both row calls answer the number of rows"
-unfoldable pub rows_word : Rows → ℕ
-rows_word a = in_word (told_rows a)
-
-unfoldable pub count_density_word : CountDensity → Float → ℕ × Float
-count_density_word a old = beside_word (told_count_density a) old
-
-unfoldable pub pattern_density_word : PatternDensity → Float → ℕ × Float
-pattern_density_word a old = beside_if_any (told_density a) old
-
-unfoldable pub density_pattern_word : DensityPattern → ℕ → ℕ × ℕ
-density_pattern_word a old = beside_if_any (told_pattern a) old

@@ -13,7 +13,7 @@ use Rattle.zuniq.specs.Cells.{n_hash}
 use Rattle.zuniq.specs.Codec.{zuniq, IsZuniqOf, encode, hash_at, is_zuniq_at, cell_up_to, decode}
 use Rattle.refusal.specs.declared.Refusal.{Refusal}
 use Rattle.zuniq.specs.declared.Cell.{Cell}
-use Rattle.zuniq.specs.declared.Encoded.{Encoded}
+use Rattle.std.specs.Prelude.{Ok, Err}
 use Rattle.zuniq.specs.declared.Decoded.{Decoded}
 
 abbrev pub cell : ℕ → ℕ → Cell
@@ -116,23 +116,23 @@ pub none_decodes : (K z : ℕ) → decode K z ≡ Decoded.Nothing → (d h : ℕ
 none_decodes K z e d h v = nothing_found (cell d h) (sym e ∙ (decodes K z (cell d h)).1 v)
 
 -- exactly the cells in range are encoded
-pub encodes : (K d h z : ℕ) → (encode K d h ≡ Encoded.Zuniq z) ↔ IsZuniqOf K z d h
+pub encodes : (K d h z : ℕ) → (encode K d h ≡ Ok z) ↔ IsZuniqOf K z d h
 unfolding encode
 encodes K d h z = (there (ltb K d) refl (leb (n_hash d) h) refl, back)
   where
     there : (a : Bool) → ltb K d ≡ a → (b : Bool) → leb (n_hash d) h ≡ b
-        → cond a (Encoded.Refused Refusal.DepthOutOfRange) (cond b (Encoded.Refused (Refusal.HashOutOfRange 0)) (Encoded.Zuniq (zuniq K d h))) ≡ Encoded.Zuniq z → IsZuniqOf K z d h
+        → cond a (Err Refusal.DepthOutOfRange) (cond b (Err (Refusal.HashOutOfRange 0)) (Ok (zuniq K d h))) ≡ Ok z → IsZuniqOf K z d h
     there true p b q e = let n : ◌≡◌ {A = ℕ} 0 1 = cc in absurd (omega arith)
     there false p true q e = let n : ◌≡◌ {A = ℕ} 0 1 = cc in absurd (omega arith)
     there false p false q e = record { deep = ltb-false K d p; hash = leb-false (n_hash d) h q; is = cc }
 
-    back : IsZuniqOf K z d h → encode K d h ≡ Encoded.Zuniq z
-    back v = rw (le-ltb K d v.deep, lt-leb (n_hash d) h v.hash) (ap Encoded.Zuniq (sym v.is))
+    back : IsZuniqOf K z d h → encode K d h ≡ Ok z
+    back v = rw (le-ltb K d v.deep, lt-leb (n_hash d) h v.hash) (ap Ok (sym v.is))
 
 -- encoding, then decoding, gives the cell again
-pub decode-encode : (K d h z : ℕ) → encode K d h ≡ Encoded.Zuniq z → decode K z ≡ Decoded.Cell (cell d h)
+pub decode-encode : (K d h z : ℕ) → encode K d h ≡ Ok z → decode K z ≡ Decoded.Cell (cell d h)
 decode-encode K d h z e = (decodes K z (cell d h)).1 ((encodes K d h z).0 e)
 
 -- decoding, then encoding, gives the zuniq again
-pub encode-decode : (K z : ℕ) (c : Cell) → decode K z ≡ Decoded.Cell c → encode K c.depth c.hash ≡ Encoded.Zuniq z
+pub encode-decode : (K z : ℕ) (c : Cell) → decode K z ≡ Decoded.Cell c → encode K c.depth c.hash ≡ Ok z
 encode-decode K z c e = (encodes K c.depth c.hash z).1 ((decodes K z c).0 e)

@@ -2,4 +2,4 @@ pub mod Basics
 pub mod Ranges
 pub mod Codec
 pub mod Zeros
-pub mod Codec32
+pub mod Numbers

@@ -269,3 +269,8 @@ module _ (K : ℕ) where
   pub zuniq-is_shifted : (d h : ℕ) → (2 * h + 1) * 2 ^ (2 * (K - d)) ≡ zuniq K d h
   unfolding zuniq
   zuniq-is_shifted d h = rw (← four_pow_two (K - d)) refl
+
+-- The sky's number of cells has 62 bits, at any largest depth that there is.
+pub sky-fits : (K : ℕ) → K ≤ 29 → n_hash K < 2 ^ 62
+unfolding n_hash
+sky-fits K l = let most : 4 ^ K ≤ 4 ^ 29 = pow-le-pow_right (omega arith) l in omega arith

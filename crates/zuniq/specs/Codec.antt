@@ -1,12 +1,9 @@
 -- Section 1 of the scope: zuniq, its coding and decoding, and the overlap test, over the largest depth K that the type
 -- of the zuniqs holds: 29 for 64 bits, 13 for 32.
-use Rattle.std.specs.Prelude.{Bool, ◌&&◌, cond, ◌≡◌, ℕ, zero, suc, ◌+◌, ◌*◌, ◌/◌, ◌-◌, ◌^◌, ◌≤◌, ◌<◌, eqb, leb, ltb}
+use Rattle.std.specs.Prelude.{Bool, Result, Ok, Err, ◌&&◌, cond, ◌≡◌, ℕ, zero, suc, ◌+◌, ◌*◌, ◌/◌, ◌-◌, ◌^◌, ◌≤◌, ◌<◌, eqb, leb, ltb}
 use Rattle.zuniq.specs.Cells.{n_hash, overlap}
 use Rattle.refusal.specs.declared.Refusal.{Refusal}
-use Rattle.zuniq.specs.declared.CellNumber.{CellNumber}
-use Rattle.zuniq.specs.declared.Encoded.{Encoded}
 use Rattle.zuniq.specs.declared.Decoded.{Decoded}
-use Rattle.zuniq.specs.declared.Overlap.{Overlap}
 
 -- "zuniq(d, h) = (2h + 1) × 4^(29−d)"
 unfoldable pub zuniq : ℕ → ℕ → ℕ → ℕ
@@ -19,15 +16,15 @@ pub record IsZuniqOf (K z d h : ℕ) : Type 0 where
   pub is : z ≡ zuniq K d h
 
 -- the number of cells at a depth, refused by 1
-unfoldable pub cell_number : ℕ → ℕ → CellNumber
-cell_number K d = cond (ltb K d) (CellNumber.Refused Refusal.DepthOutOfRange) (CellNumber.Cells (n_hash d))
+unfoldable pub cell_number : ℕ → ℕ → Result ℕ Refusal
+cell_number K d = cond (ltb K d) (Err Refusal.DepthOutOfRange) (Ok (n_hash d))
 
 -- "encoding refuses by 1 and 7"
-unfoldable pub encode : ℕ → ℕ → ℕ → Encoded
+unfoldable pub encode : ℕ → ℕ → ℕ → Result ℕ Refusal
 encode K d h =
-    cond (ltb K d) (Encoded.Refused Refusal.DepthOutOfRange)
-    (cond (leb (n_hash d) h) (Encoded.Refused (Refusal.HashOutOfRange 0))
-    (Encoded.Zuniq (zuniq K d h)))
+    cond (ltb K d) (Err Refusal.DepthOutOfRange)
+    (cond (leb (n_hash d) h) (Err (Refusal.HashOutOfRange 0))
+    (Ok (zuniq K d h)))
 
 -- the hash that a cell of depth d would have if its zuniq were z
 unfoldable pub hash_at : ℕ → ℕ → ℕ → ℕ
@@ -47,10 +44,10 @@ unfoldable pub decode : ℕ → ℕ → Decoded
 decode K z = cell_up_to K K z
 
 -- "the overlap test [refuses] by 12": "one of an overlap test's two is not valid, place 0 or 1"
-unfoldable pub overlap_of : Decoded → Decoded → Overlap
-overlap_of Decoded.Nothing r = Overlap.Refused (Refusal.InvalidQuery 0)
-overlap_of (Decoded.Cell l) Decoded.Nothing = Overlap.Refused (Refusal.InvalidQuery 1)
-overlap_of (Decoded.Cell l) (Decoded.Cell r) = Overlap.Answer (overlap l.depth l.hash r.depth r.hash)
+unfoldable pub overlap_of : Decoded → Decoded → Result Bool Refusal
+overlap_of Decoded.Nothing r = Err (Refusal.InvalidQuery 0)
+overlap_of (Decoded.Cell l) Decoded.Nothing = Err (Refusal.InvalidQuery 1)
+overlap_of (Decoded.Cell l) (Decoded.Cell r) = Ok (overlap l.depth l.hash r.depth r.hash)
 
-unfoldable pub overlap_test : ℕ → ℕ → ℕ → Overlap
+unfoldable pub overlap_test : ℕ → ℕ → ℕ → Result Bool Refusal
 overlap_test K zl zr = overlap_of (decode K zl) (decode K zr)

@@ -1,16 +1,19 @@
 -- `commit` meets its contract. Assumes nothing.
-use mathlib.Core.Path.{◌≡◌, sym, ◌∙◌}
+use mathlib.Core.Path.{◌≡◌, ap, sym, ◌∙◌}
+use mathlib.Core.Option.{none}
 use Prim.Native.Nat.{ℕ}
 use lib.ListN.{length}
 use borrow.Author.Tests.{not-true, not-false}
+use Rattle.std.proofs.Common.{rules}
 use Rattle.combine.specs.Pool.{Given, pool_input_refusal}
-use Rattle.combine.specs.Ask.{figures_of, asked_or}
-use Rattle.combine.specs.declared.counts.Asked.{Asked}
-use Rattle.combine.proofs.AskCall.{commit_refused, commit_differs, commit_poolable, commit_done}
+use Rattle.combine.specs.Ask.{figures_of}
+use Rattle.combine.specs.declared.counts.Figures.{Figures}
+use Rattle.combine.proofs.Passed.{Passed}
+use Rattle.combine.proofs.AskCall.{asked_passed, asked_total, asked_found, input_refused, commit_differs, commit_cells, commit_done}
 use Rattle.ask.proofs.commit.Goals as goal
-use Rattle.ask.proofs.commit.Goals.{In-Answer, Start}
+use Rattle.ask.proofs.commit.Goals.{In_ok-checked, After-pool_figures-found, Start}
 
--- ---- points on the way: the maps are asked for
+-- ---- points on the way: the input is checked, and the figures are found
 
 abbrev left : Start → Given ℕ
 left s = record { depth = s.args.left_depth; zuniqs = s.args.left_zuniqs.now; values = s.args.left_counts.now }
@@ -18,32 +21,60 @@ left s = record { depth = s.args.left_depth; zuniqs = s.args.left_zuniqs.now; va
 abbrev right : Start → Given ℕ
 right s = record { depth = s.args.right_depth; zuniqs = s.args.right_zuniqs.now; values = s.args.right_counts.now }
 
--- what is answered
-abbrev Told : Start → Asked → Type 0
-Told s t =
-    let a = s.args in
-    t ≡ asked_or (pool_input_refusal a.protected.now (left s) (right s) a.depth_threshold a.chi2_threshold (length a.zuniqs.now) (length a.counts.now)) (figures_of a.protected.now (left s) (right s) a.depth_threshold a.chi2_threshold)
+allowed : (c : In_ok-checked) → let s = (goal.at.In_ok-checked c).Start in pool_input_refusal s.args.protected.now (left s) (right s) s.args.depth_threshold s.args.chi2_threshold (length s.args.zuniqs.now) (length s.args.counts.now) ≡ none
+allowed c = c.in_ok-checked.ensures.2
 
-answered : (c : In-Answer) → Told (goal.at.In-Answer c).Start (Asked.Answer c.in-Answer.found)
-answered c = sym c.in-Answer.is ∙ c.asked.ensures
+passed : (c : In_ok-checked) → let s = (goal.at.In_ok-checked c).Start in Passed (left s) (right s) (length s.args.zuniqs.now) (length s.args.counts.now)
+passed c = let s = (goal.at.In_ok-checked c).Start in asked_passed s.args.protected.now (left s) (right s) s.args.depth_threshold s.args.chi2_threshold _ _ (allowed c)
+
+found : (c : After-pool_figures-found) → let s = (goal.at.After-pool_figures-found c).Start in c.pool_figures-found.result ≡ figures_of s.args.protected.now (left s) (right s) s.args.depth_threshold s.args.chi2_threshold
+found c =
+    let s = (goal.at.After-pool_figures-found c).Start in
+    let i = (goal.at.After-pool_figures-found c).In_ok-checked in
+    asked_found s.args.protected.now (left s) (right s) s.args.depth_threshold s.args.chi2_threshold _ _ (allowed i) _ i.in_ok-checked.ensures.1 _ (rw i.in_ok-checked.ensures.0 at c.pool_figures-found.ensures)
 
 -- ---- the answers
-pub returns-else-differ : goal.returns-else-differ
-returns-else-differ c =
-    let a = c.args in
-    commit_done a.protected.now (left (goal.at.returns-else-differ c).Start) (right (goal.at.returns-else-differ c).Start) a.depth_threshold a.chi2_threshold a.figures a.zuniqs.now a.counts.now _ (answered (goal.at.returns-else-differ c).In-Answer) (not-false _ (sym c.differ.ensures ∙ c.if-differ.false)) _ c.pool_counted.ensures
+pub invariant_of-left : goal.invariant_of-left
+invariant_of-left c = let p = passed (goal.at.invariant_of-left c).In_ok-checked in record { paired = p.left_paired; valid = p.left_passes }
 
-pub returns-then-differ : goal.returns-then-differ
-returns-then-differ c =
-    let a = c.args in
-    commit_differs a.protected.now (left (goal.at.returns-then-differ c).Start) (right (goal.at.returns-then-differ c).Start) a.depth_threshold a.chi2_threshold a.figures a.zuniqs.now a.counts.now _ (answered (goal.at.returns-then-differ c).In-Answer) (not-true _ (sym c.differ.ensures ∙ c.if-differ.true))
+pub invariant_of-right : goal.invariant_of-right
+invariant_of-right c = let p = passed (goal.at.invariant_of-right c).In_ok-checked in record { paired = p.right_paired; valid = p.right_passes }
 
-pub returns-in-Refused : goal.returns-in-Refused
-returns-in-Refused c =
-    let a = c.args in
-    commit_refused a.protected.now (left (goal.at.returns-in-Refused c).Start) (right (goal.at.returns-in-Refused c).Start) a.depth_threshold a.chi2_threshold a.figures a.zuniqs.now a.counts.now _ (sym c.in-Refused.is ∙ c.asked.ensures)
+pub pool_figures-found-requires : goal.pool_figures-found-requires
+pool_figures-found-requires c =
+    let s = (goal.at.pool_figures-found-requires c).Start in
+    let i = (goal.at.pool_figures-found-requires c).In_ok-checked in
+    asked_total s.args.protected.now (left s) (right s) s.args.depth_threshold s.args.chi2_threshold _ _ (allowed i) _ i.in_ok-checked.ensures.1
 
 pub pool_counted-requires : goal.pool_counted-requires
 pool_counted-requires c =
-    let a = c.args in
-    commit_poolable a.protected.now (left (goal.at.pool_counted-requires c).Start) (right (goal.at.pool_counted-requires c).Start) a.depth_threshold a.chi2_threshold a.figures a.zuniqs.now a.counts.now _ (answered (goal.at.pool_counted-requires c).In-Answer)
+    let s = (goal.at.pool_counted-requires c).Start in
+    let i = (goal.at.pool_counted-requires c).In_ok-checked in
+    let f = (goal.at.pool_counted-requires c).After-pool_figures-found in
+    let a = s.args in (
+      asked_total a.protected.now (left s) (right s) a.depth_threshold a.chi2_threshold _ _ (allowed i) _ i.in_ok-checked.ensures.1 ∙ sym (ap (λ (g : Figures). g.total) c.pool_figures-found.ensures),
+      (passed i).paired,
+      commit_cells a.protected.now (left s) (right s) a.depth_threshold a.chi2_threshold a.figures a.zuniqs.now a.counts.now _ (allowed i) (found f),
+    )
+
+pub returns-in_err-checked : goal.returns-in_err-checked
+returns-in_err-checked c =
+    let s = (goal.at.returns-in_err-checked c).Start in
+    let r = input_refused s.args.protected.now (left s) (right s) s.args.depth_threshold s.args.chi2_threshold s.args.figures s.args.zuniqs.now s.args.counts.now c.in_err-checked.field-0.0 c.in_err-checked.ensures in
+    search rules
+
+pub returns-then-ne : goal.returns-then-ne
+returns-then-ne c =
+    let s = (goal.at.returns-then-ne c).Start in
+    let i = (goal.at.returns-then-ne c).In_ok-checked in
+    let f = (goal.at.returns-then-ne c).After-pool_figures-found in
+    let a = s.args in
+    commit_differs a.protected.now (left s) (right s) a.depth_threshold a.chi2_threshold a.figures a.zuniqs.now a.counts.now c.pool_figures-found.result (allowed i) (found f) (not-true _ (sym c.if-ne.ensures))
+
+pub returns : goal.returns
+returns c =
+    let s = (goal.at.returns c).Start in
+    let i = (goal.at.returns c).In_ok-checked in
+    let f = (goal.at.returns c).After-pool_figures-found in
+    let a = s.args in
+    commit_done a.protected.now (left s) (right s) a.depth_threshold a.chi2_threshold a.figures a.zuniqs.now a.counts.now c.pool_figures-found.result (allowed i) (found f) (not-false _ (sym c.if-ne.ensures)) _ (rw i.in_ok-checked.ensures.0 at c.pool_counted.ensures)

@@ -1,68 +1,73 @@
 -- `check_held` meets its contract: each check is one row of the table. Assumes nothing.
-use mathlib.Core.Path.{◌≡◌, refl, ap, sym, ◌∙◌}
+use mathlib.Core.Path.{◌≡◌, sym, ◌∙◌}
 use mathlib.Core.Option.{none}
 use Prim.Native.Nat.{◌≤◌}
 use lib.ListN.{length, take}
 use lib.Seq.{length-take-le}
-use Rattle.refusal.proofs.Checks.{check_passed, check_refused}
-use Rattle.protection.specs.Protected.{protected_refusal}
-use Rattle.mom.specs.Map.{first_fault}
-use Rattle.build.specs.declared.HeldMap.{HeldMap}
-use Rattle.build.specs.Add.{settings_refusal, lengths_refusal, map_refusal, held_refusal}
+use Rattle.std.proofs.Common.{rules}
+use Rattle.refusal.proofs.Checks.{none_of_ok, some_of_err}
+use Rattle.build.specs.Add.{settings_refusal, lengths_refusal, held_refusal}
 use Rattle.build.proofs.Checking.{settings-pass, lengths_pass, map_passes}
+use Rattle.build.proofs.check_held.Given.{Over}
 use Rattle.build.proofs.check_held.Goals as goal
-use Rattle.build.proofs.check_held.Goals.{In_default, In_default-check_lengths, In_default-check_map, In_default-check_protected}
+use Rattle.build.proofs.check_held.Goals.{In_ok-check_lengths, In_ok-check_settings}
 
 -- ---- what has passed
-settings_passed : (c : In_default) → let a = c.args in settings_refusal 29 a.depth a.depth_threshold a.chi2_threshold ≡ none
-settings_passed c = check_passed _ (sym c.in_default.is ∙ c.check_settings.ensures)
+settings : (g : Over) (c : In_ok-check_settings g) → let a = c.args in settings_refusal g.Z.ZUniqHashT.MAX_DEPTH a.depth a.depth_threshold a.chi2_threshold ≡ none
+settings g c = none_of_ok _ _ _ (sym c.check_settings.ensures ∙ c.in_ok-check_settings.was)
 
-list_passed : (c : In_default-check_protected) → protected_refusal 29 c.args.protected.now ≡ none
-list_passed c = check_passed _ (sym c.in_default-check_protected.is ∙ c.check_protected.ensures)
+lengths : (g : Over) (c : In_ok-check_lengths g) → let a = c.args in lengths_refusal a.held (length a.zuniqs.now) a.values a.hashes a.batch ≡ none
+lengths g c = none_of_ok _ _ _ (sym c.check_lengths.ensures ∙ c.in_ok-check_lengths.was)
 
-lengths_passed : (c : In_default-check_lengths) → let a = c.args in lengths_refusal a.held (length a.zuniqs.now) a.values a.hashes a.batch ≡ none
-lengths_passed c = check_passed _ (sym c.in_default-check_lengths.is ∙ c.check_lengths.ensures)
-
-within : (c : In_default-check_lengths) → let a = c.args in a.held ≤ length a.zuniqs.now
-within c = let a = c.args in (lengths_pass a.held (length a.zuniqs.now) a.values a.hashes a.batch (lengths_passed c)).1
-
-map_passed : (c : In_default-check_map) → let a = c.args in map_refusal (first_fault 29 a.depth (take a.held a.zuniqs.now)) ≡ none
-map_passed c = check_passed _ (sym c.in_default-check_map.is ∙ c.check_map.ensures)
+within : (g : Over) (c : In_ok-check_lengths g) → let a = c.args in a.held ≤ length a.zuniqs.now
+within g c = let a = c.args in (lengths_pass a.held (length a.zuniqs.now) a.values a.hashes a.batch (lengths g c)).1
 
 -- ---- the answers
-pub returns-in-Refused : goal.returns-in-Refused
+pub returns-in_err-check_settings : goal.returns-in_err-check_settings
 unfolding held_refusal
-returns-in-Refused c =
-    let a = c.args in
-    rw (check_refused (settings_refusal 29 a.depth a.depth_threshold a.chi2_threshold) _ (sym c.in-Refused.is ∙ c.check_settings.ensures)) refl
+returns-in_err-check_settings g c =
+    let row = some_of_err _ _ _ (sym c.check_settings.ensures ∙ c.in_err-check_settings.was) in
+    search rules
 
-pub returns-in-Refused-check_protected : goal.returns-in-Refused-check_protected
+pub returns-in_err-protected : goal.returns-in_err-protected
 unfolding held_refusal
-returns-in-Refused-check_protected c =
-    let row15 = check_refused (protected_refusal 29 c.args.protected.now) _ (sym c.in-Refused-check_protected.is ∙ c.check_protected.ensures) in
-    rw (settings_passed (goal.at.returns-in-Refused-check_protected c).In_default, row15) refl
+returns-in_err-protected g c =
+    let rows = settings g (goal.at.returns-in_err-protected g c).In_ok-check_settings in
+    let row = c.in_err-protected.ensures in
+    search rules
 
-pub returns-in-Refused-check_lengths : goal.returns-in-Refused-check_lengths
+pub returns-in_err-check_lengths : goal.returns-in_err-check_lengths
 unfolding held_refusal
-returns-in-Refused-check_lengths c =
-    let a = c.args in
-    rw (settings_passed (goal.at.returns-in-Refused-check_lengths c).In_default, list_passed (goal.at.returns-in-Refused-check_lengths c).In_default-check_protected, check_refused (lengths_refusal a.held (length a.zuniqs.now) a.values a.hashes a.batch) _ (sym c.in-Refused-check_lengths.is ∙ c.check_lengths.ensures)) refl
+returns-in_err-check_lengths g c =
+    let rows = settings g (goal.at.returns-in_err-check_lengths g c).In_ok-check_settings in
+    let protected = c.in_ok-protected.ensures.1 in
+    let row = some_of_err _ _ _ (sym c.check_lengths.ensures ∙ c.in_err-check_lengths.was) in
+    search rules
 
-pub returns-in-Refused-check_map : goal.returns-in-Refused-check_map
+pub slice_bounds-map-end : goal.slice_bounds-map-end
+slice_bounds-map-end g c = let a = c.args in sym (length-take-le a.held a.zuniqs.now (within g c))
+
+pub returns-in_err-check_map : goal.returns-in_err-check_map
 unfolding held_refusal
-returns-in-Refused-check_map c =
+returns-in_err-check_map g c =
+    let rows = settings g (goal.at.returns-in_err-check_map g c).In_ok-check_settings in
+    let protected = c.in_ok-protected.ensures.1 in
+    let lens = lengths g (goal.at.returns-in_err-check_map g c).In_ok-check_lengths in
+    let row = some_of_err _ _ _ (sym c.check_map.ensures ∙ c.in_err-check_map.was) in
+    search rules
+
+pub end_of_map-requires : goal.end_of_map-requires
+end_of_map-requires g c =
     let a = c.args in
-    rw (settings_passed (goal.at.returns-in-Refused-check_map c).In_default, list_passed (goal.at.returns-in-Refused-check_map c).In_default-check_protected, lengths_passed (goal.at.returns-in-Refused-check_map c).In_default-check_lengths, check_refused (map_refusal (first_fault 29 a.depth (take a.held a.zuniqs.now))) _ (sym c.in-Refused-check_map.is ∙ c.check_map.ensures)) refl
+    let z = g.Z.ZUniqHashT in
+    let valid = none_of_ok _ _ _ (sym c.check_map.ensures ∙ c.in_ok-check_map.was) in
+    (settings-pass z.MAX_DEPTH a.depth a.depth_threshold a.chi2_threshold (settings g (goal.at.end_of_map-requires g c).In_ok-check_settings), map_passes z.MAX_DEPTH a.depth (z.numbers (take a.held a.zuniqs.now)) valid)
 
 pub returns : goal.returns
 unfolding held_refusal
-returns c =
-    rw (settings_passed (goal.at.returns c).In_default, list_passed (goal.at.returns c).In_default-check_protected, lengths_passed (goal.at.returns c).In_default-check_lengths, map_passed (goal.at.returns c).In_default-check_map) (ap HeldMap.EndsAt c.end_of_map.ensures)
-
-pub slice_bounds-map-end : goal.slice_bounds-map-end
-slice_bounds-map-end c = let a = c.args in sym (length-take-le a.held a.zuniqs.now (within c))
-
-pub end_of_map-requires : goal.end_of_map-requires
-end_of_map-requires c =
-    let a = c.args in
-    (settings-pass 29 a.depth a.depth_threshold a.chi2_threshold (settings_passed (goal.at.end_of_map-requires c).In_default), map_passes 29 a.depth (take a.held a.zuniqs.now) (map_passed c))
+returns g c =
+    let rows = settings g (goal.at.returns g c).In_ok-check_settings in
+    let protected = c.in_ok-protected.ensures in
+    let lens = lengths g (goal.at.returns g c).In_ok-check_lengths in
+    let valid = none_of_ok _ _ _ (sym c.check_map.ensures ∙ c.in_ok-check_map.was) in
+    search rules

@@ -1,45 +1,66 @@
 -- `end_of_map` meets its contract. Assumes nothing.
-use mathlib.Core.Path.{sym, ◌∙◌, ap}
+use mathlib.Core.Path.{◌≡◌, sym, ◌∙◌, ap}
 use native.Mathlib.Omega.{arith}
 use native.Mathlib.Nat.{mod-eq_of_lt}
-use Prim.Native.Nat.{◌<◌}
-use lib.ListN.{length}
+use Prim.Native.Nat.{◌-◌, ◌<◌, ◌≤◌}
+use lib.ListN.{length, get_or}
 use Rattle.zuniq.specs.Cells.{n_hash}
+use Rattle.zuniq.specs.Codec.{decode}
+use Rattle.zuniq.proofs.Numbers.{length-numbers, number_at}
 use Rattle.build.specs.Add.{map_end, cell_end}
 use Rattle.build.proofs.Ends.{LastEnds, n_hash-mono, map_end-last, map_end-none, last_ends}
+use Rattle.build.proofs.end_of_map.Given.{Over}
 use Rattle.build.proofs.end_of_map.Goals as goal
-use Rattle.build.proofs.end_of_map.Goals.{Else-len-eq0, In-Cell}
+use Rattle.build.proofs.end_of_map.Goals.{Else-len-eq0, After-from_zuniq, In-Cell}
 
 -- ---- the last entry
-some_left : (c : Else-len-eq0) → 0 < length c.args.zuniqs.now
-some_left c = let left = c.if-len-eq0.false in omega (arith, left)
+some_left : (g : Over) (c : Else-len-eq0 g) → 0 < length (g.Z.ZUniqHashT.numbers c.args.zuniqs.now)
+some_left g c =
+    let z = g.Z.ZUniqHashT in
+    omega (arith, c.if-len-eq0.false, length-numbers z.number z.numbers g.met.Z.ZUniqHashT.numbers_are c.args.zuniqs.now)
 
-ends : (c : In-Cell) → let a = c.args in
+decoded : (g : Over) (c : After-from_zuniq g) → let zs = g.Z.ZUniqHashT.numbers c.args.zuniqs.now in decode g.Z.ZUniqHashT.MAX_DEPTH (get_or zs (length zs - 1) 0) ≡ c.from_zuniq.result
+decoded g c =
+    let z = g.Z.ZUniqHashT in
+    let are = g.met.Z.ZUniqHashT.numbers_are in
+    let zs = c.args.zuniqs.now in
+    let last = number_at z.number z.numbers are zs (length zs - 1) c.index-zuniqs-len.result (omega (arith, c.if-len-eq0.false)) c.index-zuniqs-len.is in
+    rw (length-numbers z.number z.numbers are zs, ← last) (sym c.from_zuniq.ensures)
+
+ends : (g : Over) (c : In-Cell g) → let a = c.args in
     let last = c.in-Cell.last in
-    LastEnds a.depth last.depth last.hash (map_end 29 a.depth a.zuniqs.now)
-ends c =
+    LastEnds a.depth last.depth last.hash (map_end g.Z.ZUniqHashT.MAX_DEPTH a.depth (g.Z.ZUniqHashT.numbers a.zuniqs.now))
+ends g c =
     let a = c.args in
     let last = c.in-Cell.last in
-    last_ends 29 a.depth a.zuniqs.now last.depth last.hash c.requires.1 (some_left (goal.at.In-Cell c).Else-len-eq0) (sym c.from_zuniq.ensures ∙ c.in-Cell.is)
+    last_ends g.Z.ZUniqHashT.MAX_DEPTH a.depth (g.Z.ZUniqHashT.numbers a.zuniqs.now) last.depth last.hash c.requires.1 (some_left g (goal.at.In-Cell g c).Else-len-eq0) (decoded g (goal.at.In-Cell g c).After-from_zuniq ∙ c.in-Cell.is)
+
+deepest : (g : Over) (c : In-Cell g) → (c.args.depth ≤ 29)
+deepest g c = omega (arith, c.requires.0, g.met.Z.ZUniqHashT.max_depth)
 
 -- ---- the answers
 pub returns-then-len-eq0 : goal.returns-then-len-eq0
-returns-then-len-eq0 c = let a = c.args in sym (map_end-none 29 a.depth a.zuniqs.now c.if-len-eq0.true)
+returns-then-len-eq0 g c =
+    let z = g.Z.ZUniqHashT in
+    let zs = c.args.zuniqs.now in
+    sym (map_end-none z.MAX_DEPTH c.args.depth (z.numbers zs) (length-numbers z.number z.numbers g.met.Z.ZUniqHashT.numbers_are zs ∙ c.if-len-eq0.true))
 
 pub returns-in_default : goal.returns-in_default
 unfolding cell_end
-returns-in_default c =
+returns-in_default g c =
     let a = c.args in
-    sym (map_end-last 29 a.depth a.zuniqs.now (some_left (goal.at.returns-in_default c).Else-len-eq0) ∙ ap (cell_end a.depth) (sym c.from_zuniq.ensures ∙ c.in_default.is))
+    let z = g.Z.ZUniqHashT in
+    sym (map_end-last z.MAX_DEPTH a.depth (z.numbers a.zuniqs.now) (some_left g (goal.at.returns-in_default g c).Else-len-eq0) ∙ ap (cell_end a.depth) (decoded g (goal.at.returns-in_default g c).After-from_zuniq ∙ c.in_default.is))
 
 pub overflow_add-result : goal.overflow_add-result
 unfolding n_hash
-overflow_add-result c = omega (arith, (ends (goal.at.overflow_add-result c).In-Cell).small, n_hash-mono c.args.depth 29 c.requires.0)
+overflow_add-result g c = record { fits = omega (arith, (ends g (goal.at.overflow_add-result g c).In-Cell).small, n_hash-mono c.args.depth 29 (deepest g (goal.at.overflow_add-result g c).In-Cell)) }
 
 pub overflow_sub-result : goal.overflow_sub-result
-overflow_sub-result c = (ends (goal.at.overflow_sub-result c).In-Cell).shallow
+overflow_sub-result g c = (ends g (goal.at.overflow_sub-result g c).In-Cell).shallow
 
 pub returns : goal.returns
 unfolding n_hash
-returns c =
-    rw (ends (goal.at.returns c).In-Cell).end_is (mod-eq_of_lt (omega (arith, (ends (goal.at.returns c).In-Cell).within, n_hash-mono c.args.depth 29 c.requires.0)))
+returns g c =
+    let e = ends g (goal.at.returns g c).In-Cell in
+    rw e.end_is (mod-eq_of_lt (omega (arith, e.within, n_hash-mono c.args.depth 29 (deepest g (goal.at.returns g c).In-Cell))))

@@ -3,50 +3,65 @@ use mathlib.Core.Path.{◌≡◌, refl, sym, ◌∙◌}
 use mathlib.Core.Option.{Option, none}
 use Prim.Native.Nat.{◌+◌}
 use native.Mathlib.Omega.{arith}
-use lib.ListN.{get_or, drop}
+use lib.ListN.{drop}
+use Rattle.std.proofs.Common.{rules}
 use Rattle.zuniq.specs.Cells.{n_hash}
+use Rattle.zuniq.proofs.Numbers.{length-numbers, number_at}
 use Rattle.refusal.specs.declared.Refusal.{Refusal}
 use Rattle.refusal.specs.Checks.{or_else, check_of}
-use Rattle.refusal.proofs.Checks.{check_passed, refuses}
+use Rattle.refusal.proofs.Checks.{none_of_ok, some_of_err}
 use Rattle.build.specs.Add.{cell_refusal, hashes_refusal}
+use Rattle.build.proofs.Ends.{n_hash-mono}
 use Rattle.build.proofs.Checking.{cell_passes, hashes_at, hashes_end}
+use Rattle.build_counts.proofs.check_cells.Given.{Over}
 use Rattle.build_counts.proofs.check_cells.Goals as goal
-use Rattle.build_counts.proofs.check_cells.Goals.{After-check_cell, In_default}
+use Rattle.build_counts.proofs.check_cells.Goals.{After-check_cell, In_ok-check_cell}
 
 -- ---- a turn
-
 -- what the cell is refused for
-abbrev fault : After-check_cell → Option Refusal
-fault c = let a = c.args in let o = c.loop-i in cell_refusal (n_hash a.depth) o.least (get_or a.hashes.now o.i 0) o.i
+abbrev fault : (g : Over) → After-check_cell g → Option Refusal
+fault g c = let o = c.loop-i in cell_refusal (n_hash c.args.depth) o.least c.as_u64-hash.result o.i
 
-checked : (c : After-check_cell) → c.check_cell.result ≡ check_of (fault c)
-checked c = rw c.n_hash_unchecked-n_hash.ensures at c.check_cell.ensures
+checked : (g : Over) (c : After-check_cell g) → c.check_cell.result ≡ check_of (fault g c)
+checked g c = rw c.n_hash_unchecked-n_hash.ensures at c.check_cell.ensures
 
-passed : (c : In_default) → fault (goal.at.In_default c).After-check_cell ≡ none
-passed c = check_passed _ (sym c.in_default.is ∙ checked (goal.at.In_default c).After-check_cell)
+passed : (g : Over) (c : In_ok-check_cell g) → fault g (goal.at.In_ok-check_cell g c).After-check_cell ≡ none
+passed g c = none_of_ok _ _ _ (sym (checked g (goal.at.In_ok-check_cell g c).After-check_cell) ∙ c.in_ok-check_cell.was)
 
 -- and the batch, once the cells before it have passed
-split : (c : After-check_cell) → let a = c.args in
+split : (g : Over) (c : After-check_cell g) → let a = c.args in
     let o = c.loop-i in
-    let hash = get_or a.hashes.now o.i 0 in
-    hashes_refusal a.depth a.end 0 a.hashes.now
-    ≡ or_else (fault c) (hashes_refusal a.depth (hash + 1) (o.i + 1) (drop (o.i + 1) a.hashes.now))
-split c = let a = c.args in let o = c.loop-i in sym o.invariant.1 ∙ hashes_at a.depth o.least o.i a.hashes.now c.loop-i-test.true
+    let hs = g.Z.ZUniqHashT.numbers a.hashes.now in
+    hashes_refusal a.depth a.end 0 hs ≡ or_else (fault g c) (hashes_refusal a.depth (c.as_u64-hash.result + 1) (o.i + 1) (drop (o.i + 1) hs))
+split g c =
+    let a = c.args in
+    let o = c.loop-i in
+    let z = g.Z.ZUniqHashT in
+    let are = g.met.Z.ZUniqHashT.numbers_are in
+    let hash = c.as_u64-hash.ensures ∙ number_at z.number z.numbers are a.hashes.now o.i _ c.loop-i-test.true c.index-hashes-i.is in
+    rw hash (sym o.invariant ∙ hashes_at a.depth o.least o.i (z.numbers a.hashes.now) (omega (arith, c.loop-i-test.true, length-numbers z.number z.numbers are a.hashes.now)))
 
-pub loop-i-init : goal.loop-i-init
-loop-i-init c = (omega arith, refl)
-
-pub returns-in-Refused : goal.returns-in-Refused
-returns-in-Refused c = rw (split (goal.at.returns-in-Refused c).After-check_cell ∙ refuses (fault (goal.at.returns-in-Refused c).After-check_cell) _ (checked (goal.at.returns-in-Refused c).After-check_cell) c.in-Refused.is) refl
+-- ---- the answers
+pub returns-in_err-check_cell : goal.returns-in_err-check_cell
+returns-in_err-check_cell g c =
+    let e = split g (goal.at.returns-in_err-check_cell g c).After-check_cell in
+    let row = some_of_err _ _ _ (sym (checked g (goal.at.returns-in_err-check_cell g c).After-check_cell) ∙ c.in_err-check_cell.was) in
+    rw (e, row) (search rules)
 
 pub overflow_add-least : goal.overflow_add-least
-overflow_add-least c =
+unfolding n_hash
+overflow_add-least g c =
     let o = c.loop-i in
-    let p = cell_passes (n_hash c.args.depth) o.least (get_or c.args.hashes.now o.i 0) o.i (passed c) in
-    record { fits = omega (arith, p.0, c.n_hash_unchecked-n_hash.ensures, c.n_hash_unchecked-n_hash.type_inv) }
+    let p = cell_passes (n_hash c.args.depth) o.least c.as_u64-hash.result o.i (passed g (goal.at.overflow_add-least g c).In_ok-check_cell) in
+    record { fits = omega (arith, p.0, n_hash-mono c.args.depth 29 (omega (arith, c.requires, g.met.Z.ZUniqHashT.max_depth))) }
 
 pub loop-i-preserved : goal.loop-i-preserved
-loop-i-preserved c = (omega arith, sym (rw (passed c) at (split (goal.at.loop-i-preserved c).After-check_cell)))
+loop-i-preserved g c = sym (rw (passed g (goal.at.loop-i-preserved g c).In_ok-check_cell) at (split g (goal.at.loop-i-preserved g c).After-check_cell))
 
 pub returns : goal.returns
-returns c = let a = c.args in let o = c.loop-i in rw (← o.invariant.1, hashes_end a.depth o.least o.i a.hashes.now c.loop-i-test.false) refl
+returns g c =
+    let a = c.args in
+    let o = c.loop-i in
+    let z = g.Z.ZUniqHashT in
+    let hs = z.numbers a.hashes.now in
+    rw (← o.invariant, hashes_end a.depth o.least o.i hs (omega (arith, c.loop-i-test.false, length-numbers z.number z.numbers g.met.Z.ZUniqHashT.numbers_are a.hashes.now))) refl

@@ -1,11 +1,7 @@
 use mathlib.Core.Path.{◌≡◌}
-use Prim.Native.Nat.{◌-◌, ◌≤◌}
-use lib.ListN.{length, drop}
+use lib.ListN.{drop}
 use Rattle.build.specs.Add.{hashes_refusal}
 use Rattle.build_counts.proofs.check_cells.Given as goal
 
 abbrev pub invariant-loop-i : goal.invariant-loop-i
-invariant-loop-i l = (l.i ≤ length l.hashes) × (hashes_refusal l.depth l.least l.i (drop l.i l.hashes) ≡ hashes_refusal l.depth l.end 0 l.hashes)
-
-abbrev pub decreases-loop-i : goal.decreases-loop-i
-decreases-loop-i l = length l.hashes - l.i
+invariant-loop-i g l = let hs = g.Z.ZUniqHashT.numbers l.hashes in hashes_refusal l.depth l.least l.i (drop l.i hs) ≡ hashes_refusal l.depth l.end 0 hs

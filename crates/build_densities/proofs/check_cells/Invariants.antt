@@ -1,13 +1,9 @@
 use mathlib.Core.Path.{◌≡◌}
-use Prim.Native.Nat.{◌-◌, ◌≤◌}
-use lib.ListN.{length, drop}
+use lib.ListN.{drop}
 use Rattle.merger.specs.Floats.{invalid_density}
 use Rattle.build.specs.Add.{cells_refusal}
 use Rattle.build_densities.proofs.check_cells.Given as goal
 
 abbrev pub invariant-loop-i : goal.invariant-loop-i
 invariant-loop-i l =
-    (l.i ≤ length l.hashes) × (cells_refusal invalid_density l.depth l.least l.i (drop l.i l.hashes) (drop l.i l.batch) ≡ cells_refusal invalid_density l.depth l.end 0 l.hashes l.batch)
-
-abbrev pub decreases-loop-i : goal.decreases-loop-i
-decreases-loop-i l = length l.hashes - l.i
+    (cells_refusal invalid_density l.depth l.least l.i (drop l.i l.hashes) (drop l.i l.batch) ≡ cells_refusal invalid_density l.depth l.end 0 l.hashes l.batch)

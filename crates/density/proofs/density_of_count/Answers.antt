@@ -1,15 +1,8 @@
 -- `density_of_count` meets its contract: the same steps in the same order. Assumes nothing.
-use Rattle.std.proofs.Common.{refl, arith, le-ltb, lt-ltb}
+use Rattle.std.proofs.Common.{refl, arith, le-ltb}
 use lib.Ieee.{of_bits, of_int}
 use Rattle.density.specs.Densities.{density_at, density_of_count}
 use Rattle.density.proofs.density_of_count.Goals as goal
-
-pub returns-then-depth-gt-MAX_DEPTH : goal.returns-then-depth-gt-MAX_DEPTH
-unfolding density_of_count
-returns-then-depth-gt-MAX_DEPTH c = rw (lt-ltb 29 c.args.depth (omega arith)) refl
-
-pub n_hash_unchecked-requires : goal.n_hash_unchecked-requires
-n_hash_unchecked-requires c = omega arith
 
 pub returns : goal.returns
 unfolding density_at density_of_count of_bits of_int

@@ -1,21 +1,22 @@
 -- `run_end` meets its contract. The invariant of its loop: the entries from the place on and before `end`
--- overlap the query. The measure is what is left of the length. Assumes nothing.
-use mathlib.Core.Path.{sym, ◌∙◌}
+-- overlap the query. Assumes nothing.
+use mathlib.Core.Path.{◌≡◌, sym, ◌∙◌}
 use native.Mathlib.Omega.{arith}
 use Rattle.mom.proofs.Searching.{found_none_from, found_from, ends_before, ends_with_all}
 use Rattle.lookup.proofs.run_end.Goals as goal
 
 pub loop-end-init : goal.loop-end-init
-loop-end-init c = found_none_from c.requires
+loop-end-init g c = found_none_from c.requires
 
 pub returns-then-not-is_overlapped : goal.returns-then-not-is_overlapped
-returns-then-not-is_overlapped c = ends_before c.loop-end.invariant (sym c.is_overlapped.ensures ∙ c.if-not-is_overlapped.true)
-
-pub loop-end-smaller : goal.loop-end-smaller
-loop-end-smaller c = omega arith
+returns-then-not-is_overlapped g c = ends_before c.loop-end.invariant (rw c.zuniq_at.ensures at (sym c.is_overlapped.ensures ∙ c.if-not-is_overlapped.true))
 
 pub loop-end-preserved : goal.loop-end-preserved
-loop-end-preserved c = found_from c.loop-end.invariant (omega (arith, c.loop-end-test.true)) (sym c.is_overlapped.ensures ∙ c.if-not-is_overlapped.false)
+loop-end-preserved g c =
+    found_from c.loop-end.invariant (omega (arith, c.loop-end-test.true, c.n_zuniqs-len.ensures))
+    (rw c.zuniq_at.ensures at (sym c.is_overlapped.ensures ∙ c.if-not-is_overlapped.false))
 
 pub returns : goal.returns
-returns c = ends_with_all c.loop-end.invariant (omega (arith, c.loop-end-test.false))
+returns g c =
+    let e : c.n_zuniqs-len.result ≡ c.loop-end.end = omega (arith, c.n_zuniqs-len.ensures, c.loop-end.invariant.within, c.loop-end-test.false) in
+    rw e (ends_with_all c.loop-end.invariant (omega (arith, c.n_zuniqs-len.ensures, c.loop-end-test.false)))

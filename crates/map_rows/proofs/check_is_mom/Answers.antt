@@ -1,28 +1,15 @@
 -- `check_is_mom` meets its contract. Assumes nothing.
-use mathlib.Core.Path.{ap, sym, ◌∙◌}
-use Rattle.mom.specs.Map.{valid_or}
-use Rattle.map_rows.specs.MapRows.{wide}
-use Rattle.map_rows.proofs.OverRows.{check_too_deep, check_refused, check_of_rows}
+use Rattle.std.proofs.Common.{◌≡◌, Err, rules}
+use Rattle.map_rows.specs.MapRows.{width}
+use Rattle.map_rows.proofs.OverRows.{rows_err, rows_ok, check_refused, check_of_rows}
 use Rattle.map_rows.proofs.check_is_mom.Goals as goal
 
-pub returns-then-depth-gt-MAX_DEPTH : goal.returns-then-depth-gt-MAX_DEPTH
-returns-then-depth-gt-MAX_DEPTH c = let a = c.args in check_too_deep wide a.bytes.now a.depth c.if-depth-gt-MAX_DEPTH.true
+pub returns-in_err-map_rows_at : goal.returns-in_err-map_rows_at
+returns-in_err-map_rows_at g c =
+    let e : c.from_residual.result ≡ Err c.in_err-map_rows_at.field-0.0 = search rules in
+    check_refused (width g.Z.ZUniqHashT.MAX_DEPTH g.Z.LittleEndian.SIZE) c.args.bytes.now c.args.depth (rows_err _ _ _ _ (rw c.in_err-map_rows_at.was at c.map_rows_at.ensures)) e
 
-pub returns-in-Refused : goal.returns-in-Refused
-returns-in-Refused c =
-    let a = c.args in
-    check_refused wide a.bytes.now a.depth c.if-depth-gt-MAX_DEPTH.false _ (sym c.map_rows.ensures ∙ c.in-Refused.is)
-
-pub returns-in-Nothing : goal.returns-in-Nothing
-unfolding valid_or
-returns-in-Nothing c =
-    let a = c.args in
-    sym (ap valid_or (sym c.first_fault.ensures ∙ c.in-Nothing.is))
-    ∙ check_of_rows wide a.bytes.now a.depth c.if-depth-gt-MAX_DEPTH.false _ (sym c.map_rows.ensures ∙ c.in_default.is)
-
-pub returns-in-At : goal.returns-in-At
-unfolding valid_or
-returns-in-At c =
-    let a = c.args in
-    sym (ap valid_or (sym c.first_fault.ensures ∙ c.in-At.is))
-    ∙ check_of_rows wide a.bytes.now a.depth c.if-depth-gt-MAX_DEPTH.false _ (sym c.map_rows.ensures ∙ c.in_default.is)
+pub returns : goal.returns
+returns g c =
+    let ok = rows_ok _ _ _ (rw c.in_ok-map_rows_at.was at c.map_rows_at.ensures) in
+    check_of_rows (width g.Z.ZUniqHashT.MAX_DEPTH g.Z.LittleEndian.SIZE) c.args.bytes.now c.args.depth ok.1 (rw ok.2 at c.first_fault_in.ensures)

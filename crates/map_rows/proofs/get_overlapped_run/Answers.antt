@@ -1,33 +1,15 @@
 -- `get_overlapped_run` meets its contract. Assumes nothing.
-use mathlib.Core.Path.{sym, ◌∙◌}
-use native.Mathlib.Omega.{arith}
-use Rattle.mom.proofs.Ranges.{has_range}
-use Rattle.mom.proofs.Answers as answers
-use Rattle.map_rows.specs.MapRows.{wide}
-use Rattle.map_rows.proofs.OverRows.{run_refused, run_of_rows}
+use Rattle.std.proofs.Common.{◌≡◌, Err, rules}
+use Rattle.map_rows.specs.MapRows.{width}
+use Rattle.map_rows.proofs.OverRows.{rows_err, rows_ok, run_refused, run_of_rows}
 use Rattle.map_rows.proofs.get_overlapped_run.Goals as goal
 
-pub returns-in-Refused : goal.returns-in-Refused
-returns-in-Refused c =
-    let a = c.args in
-    run_refused wide a.bytes.now a.zuniq _ (sym c.map_rows.ensures ∙ c.in-Refused.is)
-
-pub returns-in_default-range_of : goal.returns-in_default-range_of
-returns-in_default-range_of c =
-    let a = c.args in
-    run_of_rows wide a.bytes.now a.zuniq _ _ (sym c.map_rows.ensures ∙ c.in_default.is)
-    (answers.run_refused (sym c.range_of.ensures ∙ c.in_default-range_of.is))
-
-pub returns-then-first-end : goal.returns-then-first-end
-returns-then-first-end c =
-    let a = c.args in
-    let range = has_range 29 _ _ (sym c.range_of.ensures ∙ c.in-Range.is) in
-    run_of_rows wide a.bytes.now a.zuniq _ _ (sym c.map_rows.ensures ∙ c.in_default.is)
-    (answers.run_answer range c.lower_bound-place.ensures c.run_start-first.ensures c.run_end-end.ensures (omega (arith, c.if-first-end.true)))
+pub returns-in_err-map_rows : goal.returns-in_err-map_rows
+returns-in_err-map_rows g c =
+    let e : c.from_residual.result ≡ Err c.in_err-map_rows.field-0.0 = search rules in
+    run_refused (width g.Z.ZUniqHashT.MAX_DEPTH g.Z.LittleEndian.SIZE) c.args.bytes.now _ _ (rows_err _ _ _ _ (rw c.in_err-map_rows.was at c.map_rows.ensures)) e
 
 pub returns : goal.returns
-returns c =
-    let a = c.args in
-    let range = has_range 29 _ _ (sym c.range_of.ensures ∙ c.in-Range.is) in
-    run_of_rows wide a.bytes.now a.zuniq _ _ (sym c.map_rows.ensures ∙ c.in_default.is)
-    (answers.empty_answer range c.lower_bound-place.ensures c.run_start-first.ensures c.run_end-end.ensures (omega (arith, c.if-first-end.false)))
+returns g c =
+    let ok = rows_ok _ _ _ (rw c.in_ok-map_rows.was at c.map_rows.ensures) in
+    run_of_rows (width g.Z.ZUniqHashT.MAX_DEPTH g.Z.LittleEndian.SIZE) c.args.bytes.now _ _ ok.1 (rw ok.2 at c.get_overlapped_run_in.ensures)

@@ -1,6 +1,6 @@
 -- `mom_add_counts` meets its contract. Assumes nothing.
-use Rattle.mom_c.proofs.Added.{counts_told}
+use Rattle.mom_c.proofs.Told.{counts_are}
 use Rattle.mom_c.proofs.mom_add_counts.Goals as goal
 
 pub returns : goal.returns
-returns c = counts_told _ _ _ _ _ _ _ c.add_counts-added.ensures c.counts_word.ensures
+returns c = counts_are _ _ _ _ _ _ _ c.add_counts-added.ensures c.counts_word.ensures

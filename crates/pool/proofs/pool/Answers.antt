@@ -1,16 +1,17 @@
 -- `pool` meets its contract. Assumes nothing.
 use mathlib.Core.Path.{◌≡◌, sym, ◌∙◌}
+use Rattle.std.proofs.Common.{rules}
 use mathlib.Core.Option.{Option, none}
-use Prim.Native.Nat.{ℕ, ◌+◌}
+use Prim.Native.Nat.{ℕ, ◌+◌, ◌≤◌}
 use lib.ListN.{length}
 use Rattle.refusal.specs.declared.Refusal.{Refusal}
+use Rattle.protection.specs.Protected.{RisingList}
 use Rattle.build.specs.Add.{sum_of}
-use Rattle.build.proofs.Checking.{total_passed, total_refused}
 use Rattle.combine.specs.Pool.{Given, pool_input_refusal}
-use Rattle.combine.proofs.Passed.{passed_holds}
+use Rattle.combine.proofs.Passed.{Passed}
 use Rattle.combine.proofs.PoolCall.{pool_input_passes, pool_refused, Passed-total, pool_done}
 use Rattle.pool.proofs.pool.Goals as goal
-use Rattle.pool.proofs.pool.Goals.{In-Sum, Start}
+use Rattle.pool.proofs.pool.Goals.{In_ok-checked, Start}
 
 -- ---- points on the way: the input is checked, and its total is known
 
@@ -24,27 +25,38 @@ right s = record { depth = s.args.right_depth; zuniqs = s.args.right_zuniqs.now;
 abbrev refusal : Start → Option Refusal
 refusal s = let a = s.args in pool_input_refusal a.protected.now (left s) (right s) a.depth_threshold a.chi2_threshold (length a.zuniqs.now) (length a.counts.now)
 
-abbrev total : Start → ℕ
-total s = sum_of s.args.left_counts.now + sum_of s.args.right_counts.now
+-- what is checked is not refused
+allowed : (c : In_ok-checked) → refusal (goal.at.In_ok-checked c).Start ≡ none
+allowed c = c.in_ok-checked.ensures.2
 
-accepted : (c : In-Sum) → (refusal (goal.at.In-Sum c).Start ≡ none) × (total (goal.at.In-Sum c).Start ≡ c.in-Sum.total)
-accepted c =
-    total_passed (refusal (goal.at.In-Sum c).Start) (total (goal.at.In-Sum c).Start) c.in-Sum.total (sym c.check.ensures ∙ c.in-Sum.is)
+passed : (c : In_ok-checked) → let s = (goal.at.In_ok-checked c).Start in Passed (left s) (right s) (length s.args.zuniqs.now) (length s.args.counts.now)
+passed c =
+    let s = (goal.at.In_ok-checked c).Start in
+    (pool_input_passes s.args.protected.now (left s) (right s) s.args.depth_threshold s.args.chi2_threshold _ _ (allowed c)).0
+
+pub invariant_of-left : goal.invariant_of-left
+invariant_of-left c = let p = passed (goal.at.invariant_of-left c).In_ok-checked in record { paired = p.left_paired; valid = p.left_passes }
+
+pub invariant_of-right : goal.invariant_of-right
+invariant_of-right c = let p = passed (goal.at.invariant_of-right c).In_ok-checked in record { paired = p.right_paired; valid = p.right_passes }
 
 pub pool_checked-requires : goal.pool_checked-requires
 pool_checked-requires c =
-    let a = c.args in
-    let q = pool_input_passes a.protected.now (left (goal.at.pool_checked-requires c).Start) (right (goal.at.pool_checked-requires c).Start) a.depth_threshold a.chi2_threshold _ _ (accepted (goal.at.pool_checked-requires c).In-Sum).0 in
-    let p = q.0 in
-    let h = passed_holds (left (goal.at.pool_checked-requires c).Start) (right (goal.at.pool_checked-requires c).Start) _ _ p in
-    (h.0, h.1, Passed-total (left (goal.at.pool_checked-requires c).Start) (right (goal.at.pool_checked-requires c).Start) _ _ p ∙ (accepted (goal.at.pool_checked-requires c).In-Sum).1, p.paired, q.2)
+    let s = (goal.at.pool_checked-requires c).Start in
+    let i = (goal.at.pool_checked-requires c).In_ok-checked in
+    let p = passed i in
+    (Passed-total (left s) (right s) _ _ p ∙ sym i.in_ok-checked.ensures.1, p.paired)
 
-pub returns-in-Refused : goal.returns-in-Refused
-returns-in-Refused c =
+pub returns-in_err-checked : goal.returns-in_err-checked
+returns-in_err-checked c =
+    let s = (goal.at.returns-in_err-checked c).Start in
     let a = c.args in
-    pool_refused a.protected.now (left (goal.at.returns-in-Refused c).Start) (right (goal.at.returns-in-Refused c).Start) a.depth_threshold a.chi2_threshold a.zuniqs.now a.counts.now c.in-Refused.refusal (total_refused (refusal (goal.at.returns-in-Refused c).Start) (total (goal.at.returns-in-Refused c).Start) c.in-Refused.refusal (sym c.check.ensures ∙ c.in-Refused.is))
+    let p = pool_refused a.protected.now (left s) (right s) a.depth_threshold a.chi2_threshold a.zuniqs.now a.counts.now c.in_err-checked.field-0.0 c.in_err-checked.ensures in
+    search rules
 
-pub returns-in-Sum : goal.returns-in-Sum
-returns-in-Sum c =
+pub returns : goal.returns
+returns c =
+    let s = (goal.at.returns c).Start in
+    let i = (goal.at.returns c).In_ok-checked in
     let a = c.args in
-    pool_done a.protected.now (left (goal.at.returns-in-Sum c).Start) (right (goal.at.returns-in-Sum c).Start) a.depth_threshold a.chi2_threshold a.zuniqs.now a.counts.now (accepted (goal.at.returns-in-Sum c).In-Sum).0 _ c.pool_checked.ensures
+    pool_done a.protected.now (left s) (right s) a.depth_threshold a.chi2_threshold a.zuniqs.now a.counts.now (allowed i) _ (rw i.in_ok-checked.ensures.0 at c.pool_checked.ensures)

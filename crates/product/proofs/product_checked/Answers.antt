@@ -1,84 +1,87 @@
 -- `product_checked` meets its contract: the products are tried and counted, and merged where there is space. Assumes nothing.
+use Rattle.std.specs.Prelude.{Err}
+use mathlib.Core.Path.{◌≡◌, ap, sym, ◌∙◌}
+use mathlib.Core.Bool.{true}
 use mathlib.Core.List.{List}
-use Prim.Native.Nat.{ℕ, ◌≤◌}
+use mathlib.Core.Option.{Option}
 use native.Mathlib.Omega.{arith}
 use lib.Ieee.{Float}
 use lib.ListN.{length}
+use Rattle.std.proofs.Common.{rules}
+use Rattle.zuniq.specs.Cells.{n_hash}
+use Rattle.refusal.specs.Checks.{or_else}
+use Rattle.refusal.specs.declared.Refusal.{Refusal}
 use Rattle.merger.specs.Floats.{0·0}
+use Rattle.merger.proofs.Floats.{zero_is}
 use Rattle.build.specs.Map.{Entry}
 use Rattle.build.proofs.Accepted.{cleared}
 use Rattle.combine.specs.Slices.{entries_of}
-use Rattle.combine.proofs.ProductCall.{product_not_finite, product_no_space, product_room, product_finite, product_within, product_made}
+use Rattle.combine.specs.Densities.{product_cells, some_not_finite}
+use Rattle.combine.specs.Pool.{finite_refusal, places_refusal, product_over}
+use Rattle.combine.proofs.DensityCells.{not_finite_append, product_cells-few}
+use Rattle.combine.proofs.ProductCall.{product_not_finite, product_no_space, product_made}
+use Rattle.product.specs.Sinks.{IsTried}
 use Rattle.product.proofs.product_checked.Goals as goal
-use Rattle.product.proofs.product_checked.Goals.{In-Number-product_cells, Start}
+use Rattle.product.proofs.product_checked.Goals.{Start, In_ok-cells}
 
--- ---- points on the way: the cells are counted, there is space for them, the product is made
+-- the cells of the product, and the entries of the two maps
+abbrev cells : Start → List (Entry Float)
+cells s = let a = s.args in product_cells a.k a.left.now.zuniqs.now a.left.now.values.now a.right.now.zuniqs.now a.right.now.values.now
 
--- the entries of the two maps
 abbrev left : Start → List (Entry Float)
-left s = entries_of s.args.left_zuniqs.now s.args.left_densities.now
+left s = entries_of s.args.left.now.zuniqs.now s.args.left.now.values.now
 
 abbrev right : Start → List (Entry Float)
-right s = entries_of s.args.right_zuniqs.now s.args.right_densities.now
+right s = entries_of s.args.right.now.zuniqs.now s.args.right.now.values.now
 
--- the buffers as the product was made in them, and that it has places there
-abbrev zuniqs : In-Number-product_cells → List ℕ
-zuniqs c = c.product_cells-2.new.zuniqs
+-- what is known once the cells have been walked and counted
+abbrev after : Start → Option Refusal
+after s = or_else (finite_refusal (cells s)) (places_refusal (length s.args.zuniqs.now) (length (cells s)))
 
-abbrev densities : In-Number-product_cells → List Float
-densities c = c.product_cells-2.new.densities
+pub product_cells-requires : goal.product_cells-requires
+unfolding n_hash
+product_cells-requires c =
+    let l = c.args.left.now in
+    let r = c.args.right.now in
+    omega (arith, product_cells-few c.args.k l.zuniqs.now l.values.now r.zuniqs.now r.values.now)
 
-within : (c : In-Number-product_cells) → (c.in-Number-product_cells.entries ≤ length (zuniqs c)) × (c.in-Number-product_cells.entries ≤ length (densities c))
-within c =
+pub returns-in_err-cells : goal.returns-in_err-cells
+returns-in_err-cells c =
     let a = c.args in
-    product_within a.protected.now (left (goal.at.In-Number-product_cells c).Start) (right (goal.at.In-Number-product_cells c).Start) a.depth_threshold a.chi2_threshold a.k a.zuniqs.now a.densities.now _ _ c.product_cells.result c.product_cells.ensures c.in-Number.cells c.in-Number.is c.product_cells-2.result _ _ c.product_cells-2.ensures c.in-Number-product_cells.entries c.in-Number-product_cells.is
+    let m = a.merger.now in
+    let s = (goal.at.returns-in_err-cells c).Start in
+    let w = c.in_err-cells.ensures in
+    let bad : some_not_finite (cells s) ≡ true = ap some_not_finite (sym w.2) ∙ rw (not_finite_append w.0 w.1, w.3.0) in
+    let p : (Err c.in_err-cells.field-0.0, c.product_cells.new.zuniqs, c.product_cells.new.densities) ≡ product_over m.protected.zuniqs.now 29 (after s) (left s) (right s) m.depth_threshold m.chi2_threshold a.k a.zuniqs.now a.densities.now =
+    rw (w.3.1, w.3.2, w.3.3) (product_not_finite m.protected.zuniqs.now (left s) (right s) m.depth_threshold m.chi2_threshold a.k a.zuniqs.now a.densities.now bad) in
+    search rules
 
-pub returns-in_default : goal.returns-in_default
-returns-in_default c =
-    let a = c.args in
-    product_not_finite a.protected.now (left (goal.at.returns-in_default c).Start) (right (goal.at.returns-in_default c).Start) a.depth_threshold a.chi2_threshold a.k a.zuniqs.now a.densities.now _ _ c.product_cells.result c.product_cells.ensures c.in_default.is
+-- the cells have been tried
+tried : (c : In_ok-cells) → IsTried c.args.zuniqs.now c.args.densities.now (cells (goal.at.In_ok-cells c).Start) c.in_ok-cells.cells c.product_cells.new.zuniqs c.product_cells.new.densities
+tried c = c.in_ok-cells.ensures
 
 pub returns-then-zuniqs-cells : goal.returns-then-zuniqs-cells
 returns-then-zuniqs-cells c =
     let a = c.args in
-    product_no_space a.protected.now (left (goal.at.returns-then-zuniqs-cells c).Start) (right (goal.at.returns-then-zuniqs-cells c).Start) a.depth_threshold a.chi2_threshold a.k a.zuniqs.now a.densities.now _ _ c.product_cells.result c.product_cells.ensures c.in-Number.cells c.in-Number.is c.if-zuniqs-cells.true
+    let m = a.merger.now in
+    let s = (goal.at.returns-then-zuniqs-cells c).Start in
+    let w = tried (goal.at.returns-then-zuniqs-cells c).In_ok-cells in
+    rw (w.1.1, w.1.2) (product_no_space m.protected.zuniqs.now (left s) (right s) m.depth_threshold m.chi2_threshold a.k a.zuniqs.now a.densities.now w.0 _ w.1.0 (rw w.1.1 at c.if-zuniqs-cells.true))
 
 pub product_cells-requires-2 : goal.product_cells-requires-2
 product_cells-requires-2 c =
-    let a = c.args in
-    let p = c.requires in
-    record { holds = (p.0, p.1, p.3); room = product_room a.protected.now (left (goal.at.product_cells-requires-2 c).Start) (right (goal.at.product_cells-requires-2 c).Start) a.depth_threshold a.chi2_threshold a.k a.zuniqs.now a.densities.now _ _ c.product_cells.result c.product_cells.ensures c.in-Number.cells c.in-Number.is c.if-zuniqs-cells.false p.2 }
-
-pub returns-in_default-product_cells : goal.returns-in_default-product_cells
-returns-in_default-product_cells c =
-    let a = c.args in
-    absurd (product_finite a.protected.now (left (goal.at.returns-in_default-product_cells c).Start) (right (goal.at.returns-in_default-product_cells c).Start) a.depth_threshold a.chi2_threshold a.k a.zuniqs.now a.densities.now _ _ c.product_cells.result c.product_cells.ensures c.in-Number.cells c.in-Number.is c.product_cells-2.result _ _ c.product_cells-2.ensures c.in_default-product_cells.is)
-
-pub offset_bounds-zuniqs-entries : goal.offset_bounds-zuniqs-entries
-offset_bounds-zuniqs-entries c =
-    record { fits = omega (arith, (within c).0, c.well_formed.1.1.1.1.1.1.1.1.0, c.product_cells-2.auto.zuniqs, c.product_cells.auto.zuniqs) }
-
-pub slice_bounds-clear_zuniqs-count : goal.slice_bounds-clear_zuniqs-count
-slice_bounds-clear_zuniqs-count c = (within c).0
-
-pub slice_bounds-clear_zuniqs-start : goal.slice_bounds-clear_zuniqs-start
-slice_bounds-clear_zuniqs-start c = (within c).0
-
-pub offset_bounds-densities-entries : goal.offset_bounds-densities-entries
-offset_bounds-densities-entries c =
-    record { fits = omega (arith, (within (goal.at.offset_bounds-densities-entries c).In-Number-product_cells).1, c.well_formed.1.1.1.1.1.1.1.1.1.0, c.product_cells-2.auto.densities, c.product_cells.auto.densities) }
-
-pub slice_bounds-clear_densities-count : goal.slice_bounds-clear_densities-count
-slice_bounds-clear_densities-count c = (within (goal.at.slice_bounds-clear_densities-count c).In-Number-product_cells).1
-
-pub slice_bounds-clear_densities-start : goal.slice_bounds-clear_densities-start
-slice_bounds-clear_densities-start c = (within (goal.at.slice_bounds-clear_densities-start c).In-Number-product_cells).1
+    let w = tried (goal.at.product_cells-requires-2 c).In_ok-cells in
+    let u = c.if-zuniqs-cells.false in
+    (omega (arith, w.1.0), omega (arith, w.1.0, c.requires, ap length w.1.1, ap length w.1.2))
 
 pub returns : goal.returns
 returns c =
     let a = c.args in
-    product_made a.protected.now (left (goal.at.returns c).Start) (right (goal.at.returns c).Start) a.depth_threshold a.chi2_threshold a.k a.zuniqs.now a.densities.now _ _ c.product_cells.result c.product_cells.ensures c.in-Number.cells c.in-Number.is
-    c.product_cells-2.result _ _ c.product_cells-2.ensures c.in-Number-product_cells.entries c.in-Number-product_cells.is
-    c.if-zuniqs-cells.false _ _ c.product_cells-2.auto.zuniqs c.product_cells-2.auto.densities
-    (cleared c.in-Number-product_cells.entries (zuniqs (goal.at.returns c).In-Number-product_cells) _ 0 (within (goal.at.returns c).In-Number-product_cells).0 c.clear_zuniqs.ensures)
-    (cleared c.in-Number-product_cells.entries (densities (goal.at.returns c).In-Number-product_cells) _ 0·0 (within (goal.at.returns c).In-Number-product_cells).1 c.clear_densities.ensures)
+    let s = (goal.at.returns c).Start in
+    let t = a.merger.now in
+    let w = tried (goal.at.returns c).In_ok-cells in
+    let m = rw (c.in-Ok.is, w.1.1, w.1.2) at c.product_cells-2.ensures in
+    product_made t.protected.zuniqs.now (left s) (right s) t.depth_threshold t.chi2_threshold a.k a.zuniqs.now a.densities.now w.0 _ w.1.0 (rw w.1.1 at c.if-zuniqs-cells.false)
+    _ _ _ _ _ m.added m.zuniqs m.values
+    (cleared c.in-Ok.entries c.product_cells-2.new.zuniqs _ 0 m.added.stands.zuniqs c.clear.ensures)
+    (cleared c.in-Ok.entries c.product_cells-2.new.densities _ 0·0 m.added.stands.values (rw zero_is at c.clear-2.ensures))

@@ -1,31 +1,25 @@
 -- `read_number` meets its contract. The loop's invariant: what is left of the field makes the number behind the digits passed. Assumes nothing.
+use Rattle.std.proofs.Common.{length, sym, ◌∙◌, ◌≤◌, arith}
 use Rattle.text.proofs.Numbers.{number_from-0, number-of_none, number-of_many, longer-le, drop-next, drop-stops, drop-end}
-use mathlib.Core.Path.{sym, ◌∙◌}
-use native.Mathlib.Omega.{arith}
-use borrow.Author.Rules.{rules}
 use Rattle.text.proofs.read_number.Goals as goal
 
-pub returns-then-field-eq0 : goal.returns-then-field-eq0
-returns-then-field-eq0 c = sym (number-of_none c.args.most c.args.field.now (search rules))
+pub returns-then-is_empty : goal.returns-then-is_empty
+returns-then-is_empty c = grind (arith, number-of_none, number-of_many)
 
-pub returns-then-field-gt-MAX_DIGITS : goal.returns-then-field-gt-MAX_DIGITS
-returns-then-field-gt-MAX_DIGITS c = sym (number-of_many c.args.most c.args.field.now (search rules))
+pub loop-digit-init : goal.loop-digit-init
+loop-digit-init c =
+    let some : 1 ≤ length c.args.field.now = grind arith in
+    (omega arith, number_from-0 c.args.most c.args.field.now some (omega arith))
 
-pub loop-i-init : goal.loop-i-init
-loop-i-init c = (omega arith, omega arith, number_from-0 c.args.most c.args.field.now (omega arith) (omega arith))
+pub returns-in_err-value : goal.returns-in_err-value
+returns-in_err-value c = let l = c.loop-digit in
+    rw c.from_residual.ensures (sym (l.invariant.1 ∙ drop-stops c.args.most l.value c.args.field.now l.digit-index (omega arith) (sym c.with_digit.ensures ∙ c.in_err-value.was)))
 
-pub returns-in_default : goal.returns-in_default
-returns-in_default c = let l = c.loop-i in
-    let e = sym c.with_digit.ensures ∙ c.in_default.is in
-    sym (l.invariant.2 ∙ drop-stops c.args.most l.value c.args.field.now l.i (omega arith) e)
-
-pub loop-i-preserved : goal.loop-i-preserved
-loop-i-preserved c = let l = c.loop-i in
-    let a = c.args in
-    let e = sym c.with_digit.ensures ∙ c.in-Value.is in
-    let next = drop-next a.most l.value a.field.now l.i c.in-Value.longer (omega arith) e in
-    (omega arith, longer-le a.most l.value _ c.in-Value.longer e, l.invariant.2 ∙ next)
+pub loop-digit-preserved : goal.loop-digit-preserved
+loop-digit-preserved c = let l = c.loop-digit in
+    let e = sym c.with_digit.ensures ∙ c.in_ok-value.was in
+    (longer-le c.args.most l.value _ c.in_ok-value.value e, l.invariant.1 ∙ drop-next c.args.most l.value c.args.field.now l.digit-index c.in_ok-value.value (omega arith) e)
 
 pub returns : goal.returns
-returns c = let l = c.loop-i in
-    sym (l.invariant.2 ∙ drop-end c.args.most l.value c.args.field.now l.i (omega arith) (omega arith))
+returns c = let l = c.loop-digit in
+    sym (l.invariant.1 ∙ drop-end c.args.most l.value c.args.field.now l.digit-index (omega arith) (omega arith))

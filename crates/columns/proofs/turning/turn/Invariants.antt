@@ -1,11 +1,8 @@
-use Prim.Native.Nat.{◌-◌, ◌≤◌}
-use lib.ListN.{get_or}
-use Rattle.columns.specs.Turning.{place, Part}
-use Rattle.columns.proofs.Moves.{Turning}
+use Prim.Native.Nat.{◌*◌, min}
+use Rattle.columns.specs.Turning.{Part, Turned}
 use Rattle.columns.proofs.turning.turn.Given as goal
 
-abbrev pub invariant-loop-row : goal.invariant-loop-row
-invariant-loop-row l = (l.row ≤ l.rows) × Turning (place l.to) (λ i j. get_or l.source (place l.from i j) 0) (Part 0 l.row 0 l.row_size) l.initial.target l.target
-
-abbrev pub decreases-loop-row : goal.decreases-loop-row
-decreases-loop-row l = l.rows - l.row
+abbrev pub invariant-loop-block : goal.invariant-loop-block
+invariant-loop-block g l =
+    let d = g.D.Direction in
+    Turned (d.from l.shape) (d.to l.shape) l.source (Part 0 (min (l.block * 64) l.shape.rows) 0 l.shape.row_size) l.initial.target l.target

@@ -1,30 +1,17 @@
 -- `print::print_entries` meets its contract. The loop's invariant is `Printed`. Assumes nothing.
-use mathlib.Core.Path.{refl}
-use mathlib.Core.List.{[]}
-use native.Mathlib.Omega.{arith}
-use lib.Seq.{get_or-take, length-take-le}
-use Rattle.text.proofs.Writing.{Written-nothing}
+use Rattle.std.proofs.lemmas.List.{length_push}
+use Rattle.std.proofs.lemmas.Slice.Zip.{zip_turn, zip_end}
 use Rattle.map_text.proofs.Printing.{Printed-next, printed_end}
 use Rattle.map_text.proofs.print.print_entries.Goals as goal
 
-pub loop-i-init : goal.loop-i-init
-loop-i-init c = (omega arith, record { text = []; written = Written-nothing c.args.output.now 0; few = omega arith; goal = refl })
-
-pub print_zuniq-at-requires : goal.print_zuniq-at-requires
-print_zuniq-at-requires c = let l = c.loop-i in
-    omega (arith, l.invariant.1.few, l.invariant.1.written.same_length)
-
-pub loop-i-preserved : goal.loop-i-preserved
-loop-i-preserved c = let l = c.loop-i in
+pub loop-zuniq-preserved : goal.loop-zuniq-preserved
+loop-zuniq-preserved c = let l = c.loop-zuniq in
     let a = c.args in
-    let zs = length-take-le a.n a.zuniqs.now (omega arith) in
-    let ns = length-take-le a.n a.counts.now (omega arith) in
-    let line = rw (← get_or-take a.n a.zuniqs.now l.i 0 (omega arith), ← get_or-take a.n a.counts.now l.i 0 (omega arith)) at c.print_zuniq-at.ensures in
-    (omega arith, Printed-next l.invariant.1 (omega arith) (omega arith) line)
+    let turn = zip_turn a.zuniqs.now a.counts.now l.yielded _ _ c.next.new.self _ (cc) (cc) l.yielded_by (c.in-Some.zuniq, c.in-Some.count) c.in-Some.is c.next.ensures.steps in
+    let line = rw (turn.2 0, turn.3 0) at c.print_zuniq.ensures.appends in
+    rw (length_push l.yielded (c.in-Some.zuniq, c.in-Some.count)) (Printed-next l.invariant turn.0 turn.1 c.print_zuniq.ensures.same_buffer line)
 
-pub shape_of-output : goal.shape_of-output
-shape_of-output c = c.loop-i.invariant.1.written.same_length
-
-pub returns : goal.returns
-returns c = let a = c.args in
-    printed_end c.loop-i.invariant.1 (omega (arith, length-take-le a.n a.zuniqs.now (omega arith)))
+pub returns-clause-appends : goal.returns-clause-appends
+returns-clause-appends c = let l = c.loop-zuniq in
+    let a = c.args in
+    printed_end l.invariant (zip_end a.zuniqs.now a.counts.now l.yielded _ _ c.next.new.self _ (cc) (cc) l.yielded_by c.in-None.is c.next.ensures.steps)

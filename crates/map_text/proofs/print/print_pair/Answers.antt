@@ -5,10 +5,10 @@ use Rattle.text.proofs.Writing.{put_written, written_on, written_as}
 use Rattle.map_text.proofs.Printing.{pair_joined}
 use Rattle.map_text.proofs.print.print_pair.Goals as goal
 
-pub returns : goal.returns
-returns c = let a = c.args in
-    let left = put_written c.put_number-behind_left.ensures (omega (arith, length-decimal a.left)) in
-    let comma = put_written c.put-behind_comma.ensures (omega (arith, length-decimal a.left)) in
-    let right = put_written c.put_number-behind_right.ensures (omega (arith, length-decimal a.left, length-decimal a.right)) in
-    let end = put_written c.put.ensures (omega (arith, length-decimal a.left, length-decimal a.right)) in
+pub returns-clause-appends : goal.returns-clause-appends
+returns-clause-appends c = let a = c.args in
+    let left = put_written c.put_number.ensures.put (omega (arith, length-decimal a.left)) in
+    let comma = put_written c.put.ensures.put (omega (arith, length-decimal a.left)) in
+    let right = put_written c.put_number-2.ensures.put (omega (arith, length-decimal a.left, length-decimal a.right)) in
+    let end = put_written c.put-2.ensures.put (omega (arith, length-decimal a.left, length-decimal a.right)) in
     written_as (pair_joined a.left a.right) (written_on (written_on (written_on left comma) right) end)

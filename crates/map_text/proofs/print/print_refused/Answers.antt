@@ -5,8 +5,8 @@ use Rattle.text.proofs.Writing.{put_written, written_on}
 use Rattle.map_text.proofs.print.print_refused.Goals as goal
 
 pub print_pair-requires : goal.print_pair-requires
-print_pair-requires c = let word = put_written c.put-at.ensures (omega arith) in omega arith
+print_pair-requires c = let word = put_written c.put.ensures.put (omega arith) in omega arith
 
 pub returns : goal.returns
 unfolding refused_text
-returns c = written_on (put_written c.put-at.ensures (omega arith)) c.print_pair.ensures
+returns c = written_on (put_written c.put.ensures.put (omega arith)) c.print_pair.ensures.appends

@@ -1,21 +1,15 @@
 -- `read::read_first_cell` meets its contract. Assumes nothing.
-use mathlib.Core.Path.{refl, sym}
-use native.Mathlib.Omega.{arith}
-use lib.ListN.{length}
-use lib.Seq.{length-take-le}
-use borrow.Author.Tests.{lt-ltb, le-ltb}
-use Rattle.text.specs.Text.{lf, position, up_to}
-use Rattle.map_text.specs.Lines.{first_cell}
-use Rattle.text.proofs.Parts.{position-le}
+use Rattle.std.proofs.Common.{rules, sym, ◌∙◌}
+use Rattle.text.specs.Text.{lf, SplitAtFirst}
+use Rattle.map_text.proofs.Lines.{first_ended}
 use Rattle.map_text.proofs.read.read_first_cell.Goals as goal
 
-pub returns-then-end-text : goal.returns-then-end-text
-unfolding first_cell
-returns-then-end-text c = rw (le-ltb (position lf c.args.text.now) (length c.args.text.now) (omega arith)) refl
-
-pub slice_bounds-read_cell-end : goal.slice_bounds-read_cell-end
-slice_bounds-read_cell-end c = sym (length-take-le c.args.end c.args.text.now (omega (arith, position-le lf c.args.text.now, c.requires)))
+pub returns-in_err-cell : goal.returns-in_err-cell
+returns-in_err-cell c =
+    let cut : SplitAtFirst lf c.args.text.now c.in_ok-line.line.now c.in_ok-line.behind.now = search rules in
+    rw c.from_residual-in_err-cell.ensures (first_ended cut ∙ sym c.read_cell.ensures ∙ c.in_err-cell.was)
 
 pub returns : goal.returns
-unfolding first_cell up_to
-returns c = rw (lt-ltb (position lf c.args.text.now) (length c.args.text.now) (omega (arith, position-le lf c.args.text.now, c.requires)), ← c.requires) c.read_cell.ensures
+returns c =
+    let cut : SplitAtFirst lf c.args.text.now c.in_ok-line.line.now c.in_ok-line.behind.now = search rules in
+    (first_ended cut ∙ sym c.read_cell.ensures ∙ c.in_ok-cell.was, cut.behind_is)

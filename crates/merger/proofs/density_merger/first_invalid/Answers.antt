@@ -1,27 +1,26 @@
--- `first_invalid` meets its contract. Assumes nothing.
+-- `first_invalid` meets its contract: `position` tests the four in order. Assumes nothing.
+use Rattle.std.proofs.Common.{◌≡◌, ℕ, ◌+◌, Bool, true, false, cond, not, ltb, [], ◌∷◌, Some, None, refl, ◌∙◌, rules, tests}
+use Rattle.std.proofs.lemmas.Iterator.{YieldsList-from_slice}
+use Rattle.std.proofs.lemmas.Iterator.Search.{position_from_yields_List}
+use Rattle.merger.specs.Floats.{invalid_density}
 use Rattle.merger.specs.Merge.{first_invalid}
 use Rattle.merger.proofs.density_merger.first_invalid.Goals as goal
 
-pub returns-then-invalid_density : goal.returns-then-invalid_density
-unfolding first_invalid
-returns-then-invalid_density c = rw (← c.invalid_density.ensures, c.if-invalid_density.true)
+-- the number of tests that fail before the first that passes
+abbrev failing : (b0 b1 b2 b3 : Bool) → ℕ
+failing b0 b1 b2 b3 = cond (not b0) (1 + cond (not b1) (1 + cond (not b2) (1 + cond (not b3) 1 0) 0) 0) 0
 
-pub returns-then-invalid_density-2 : goal.returns-then-invalid_density-2
-unfolding first_invalid
-returns-then-invalid_density-2 c =
-    rw (← c.invalid_density.ensures, c.if-invalid_density.false, ← c.invalid_density-2.ensures, c.if-invalid_density-2.true)
-
-pub returns-then-invalid_density-3 : goal.returns-then-invalid_density-3
-unfolding first_invalid
-returns-then-invalid_density-3 c =
-    rw (← c.invalid_density.ensures, c.if-invalid_density.false, ← c.invalid_density-2.ensures, c.if-invalid_density-2.false, ← c.invalid_density-3.ensures, c.if-invalid_density-3.true)
-
-pub returns-then-invalid_density-4 : goal.returns-then-invalid_density-4
-unfolding first_invalid
-returns-then-invalid_density-4 c =
-    rw (← c.invalid_density.ensures, c.if-invalid_density.false, ← c.invalid_density-2.ensures, c.if-invalid_density-2.false, ← c.invalid_density-3.ensures, c.if-invalid_density-3.false, ← c.invalid_density-4.ensures, c.if-invalid_density-4.true)
+first_of_four : (b0 b1 b2 b3 : Bool) → cond (ltb (failing b0 b1 b2 b3) 4) (Some (failing b0 b1 b2 b3)) None ≡ cond b0 (Some 0) (cond b1 (Some 1) (cond b2 (Some 2) (cond b3 (Some 3) None)))
+first_of_four true b1 b2 b3 = refl
+first_of_four false true b2 b3 = refl
+first_of_four false false true b3 = refl
+first_of_four false false false true = refl
+first_of_four false false false false = refl
 
 pub returns : goal.returns
 unfolding first_invalid
 returns c =
-    rw (← c.invalid_density.ensures, c.if-invalid_density.false, ← c.invalid_density-2.ensures, c.if-invalid_density-2.false, ← c.invalid_density-3.ensures, c.if-invalid_density-3.false, ← c.invalid_density-4.ensures, c.if-invalid_density-4.false)
+    let a = c.args in
+    let four = a.m0 ∷ a.m1 ∷ a.m2 ∷ a.m3 ∷ [] in
+    let found = position_from_yields_List invalid_density _ _ _ c.position.ensures.ran (YieldsList-from_slice four cc) (λ x b q k. search (rules, tests)) in
+    found ∙ first_of_four (invalid_density a.m0) (invalid_density a.m1) (invalid_density a.m2) (invalid_density a.m3)

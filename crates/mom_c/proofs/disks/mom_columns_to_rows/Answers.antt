@@ -1,8 +1,6 @@
 -- `mom_columns_to_rows` meets its contract. Assumes nothing.
-use mathlib.Core.Path.{ap}
-use Rattle.mom_c.specs.Ingest.{told}
+use Rattle.mom_c.proofs.Told.{number_is}
 use Rattle.mom_c.proofs.disks.mom_columns_to_rows.Goals as goal
 
 pub returns : goal.returns
-unfolding told
-returns c = rw c.rows_word.ensures (ap told c.columns_to_rows.ensures)
+returns c = number_is _ _ _ _ c.columns_to_rows.ensures c.number_word.ensures

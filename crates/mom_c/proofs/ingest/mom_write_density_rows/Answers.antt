@@ -1,8 +1,6 @@
 -- `mom_write_density_rows` meets its contract. Assumes nothing.
-use mathlib.Core.Path.{ap}
-use Rattle.mom_c.specs.Ingest.{told}
+use Rattle.mom_c.proofs.Told.{number_is}
 use Rattle.mom_c.proofs.ingest.mom_write_density_rows.Goals as goal
 
 pub returns : goal.returns
-unfolding told
-returns c = rw c.rows_word.ensures (ap told c.write_density_rows.ensures)
+returns c = number_is _ _ _ _ c.write_rows.ensures c.number_word.ensures

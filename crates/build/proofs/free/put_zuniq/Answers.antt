@@ -1,6 +1,0 @@
--- `put_zuniq` meets its contract. Assumes nothing.
-use Rattle.build.proofs.Places.{put_nowhere}
-use Rattle.build.proofs.free.put_zuniq.Goals as goal
-
-pub returns-else-free-gt0 : goal.returns-else-free-gt0
-returns-else-free-gt0 c = let a = c.args in put_nowhere a.free.now a.zuniq c.if-free-gt0.false

@@ -1,9 +1,0 @@
-use Prim.Native.Nat.{◌-◌}
-use Rattle.rows.proofs.Loops.{Writing}
-use Rattle.rows.proofs.write_density_rows.Given as goal
-
-abbrev pub invariant-loop-row : goal.invariant-loop-row
-invariant-loop-row l = Writing 8 8 l.zuniqs l.patterns l.initial.bytes l.rows l.bytes l.row
-
-abbrev pub decreases-loop-row : goal.decreases-loop-row
-decreases-loop-row l = l.rows - l.row
