@@ -201,9 +201,9 @@ fn collapse<M: Merger>(
 }
 
 // Whether the last four of n entries are children 0 to 3 of one parent, the last one being the cell
-// given. Most cells are no fourth child: for them one test is all. Of base cells, which have no parent,
-// nobody asks: collapsing ends at depth 0.
-fn are_siblings<Z: ZUniqHashT>(zuniqs: &[Z], n: usize, depth: u8, hash: u64) -> bool
+// given. Most cells are no fourth child: for them one test is all. Base cells have no parent: collapsing
+// ends at depth 0.
+pub fn are_siblings<Z: ZUniqHashT>(zuniqs: &[Z], n: usize, depth: u8, hash: u64) -> bool
     requires { (n ≤ length zuniqs.now) × IsZuniqOf Z.MAX_DEPTH (get_or (Z.numbers zuniqs.now) (n - 1) 0) depth hash }
     ensures { result ≡ quad_at Z.MAX_DEPTH n (Z.numbers zuniqs.now) depth hash }
 {
@@ -227,7 +227,7 @@ fn are_siblings<Z: ZUniqHashT>(zuniqs: &[Z], n: usize, depth: u8, hash: u64) -> 
 // Whether the hashes of a depth, from a place on, are those of children 0 to 3 of one parent. Hashes that
 // rise have the fourth of them three places further on only if all four stand there: one comparison tells.
 // Base cells have no parent, though their hashes 0 to 3, 4 to 7 and 8 to 11 pass that test.
-fn are_next_siblings<Z: ZUniqHashT>(depth: u8, hashes: &[Z], i: usize) -> bool
+pub fn are_next_siblings<Z: ZUniqHashT>(depth: u8, hashes: &[Z], i: usize) -> bool
     ensures within { result ≡ true → i + 4 ≤ length hashes.now }
     ensures is { result ≡ (ltb 0 depth && siblings_from (Z.numbers hashes.now) i) }
 {

@@ -78,10 +78,7 @@ fn check_batch<Z: ZUniqHashT>(
     ensures { result ≡ ok_unless (or_else (hashes_refusal depth end 0 (Z.numbers hashes.now)) (or_else (total_refusal (sum_of held.now) batch.now) (space_refusal places (length held.now) (length hashes.now)))) (sum_of held.now + sum_of batch.now) }
 {
     check_cells(depth, end, hashes)?;
-    let held_sum = capped_sum(held);
-    let BatchCheck::Total(total) = check_total(held_sum, batch) else {
-        return Err(Refusal::CountOverflow(overflow_place(held_sum, batch)));
-    };
+    let total = check_total(capped_sum(held), batch)?;
     check_space(places, held.len(), hashes.len())?;
     Ok(total)
 }
@@ -118,9 +115,22 @@ fn capped(sum: u64) -> u64
     sum.min(MAX_COUNT + 1)
 }
 
-// Row 10: the total of the held counts and the batch, if it fits.
-fn check_total(held: u64, batch: &[u32]) -> BatchCheck
-    requires { held ≤ 4294967296 }
+// Row 10: the total of the held counts and the batch, or the first cell with which it no longer fits.
+pub fn check_total(held: u64, batch: &[u32]) -> Result<u32, Refusal>
+    ensures { result ≡ ok_unless (total_refusal held batch.now) (held + sum_of batch.now) }
+{
+    if held > MAX_COUNT {
+        return Err(Refusal::CountOverflow(0));
+    }
+    let BatchCheck::Total(total) = total_with(held, batch) else {
+        return Err(Refusal::CountOverflow(overflow_place(held, batch)));
+    };
+    Ok(total)
+}
+
+// That total alone, if it fits.
+fn total_with(held: u64, batch: &[u32]) -> BatchCheck
+    requires { held ≤ 4294967295 }
     ensures { result ≡ cond (ltb 4294967295 (held + sum_of batch.now)) BatchCheck.TooLarge (BatchCheck.Total (held + sum_of batch.now)) }
 {
     let sum = held + capped_sum(batch);
@@ -133,7 +143,7 @@ fn check_total(held: u64, batch: &[u32]) -> BatchCheck
 // The first cell of a batch with which the total no longer fits, or 0 where the held counts alone do not:
 // only a refusal asks for the place.
 fn overflow_place(held: u64, batch: &[u32]) -> usize
-    requires { (held ≤ 4294967296) × (4294967295 < held + sum_of batch.now) }
+    requires { (held ≤ 4294967295) × (4294967295 < held + sum_of batch.now) }
     ensures { total_refusal held batch.now ≡ some (Refusal.CountOverflow result) }
 {
     let mut sum = held;

@@ -306,7 +306,7 @@ fn open<R: Rule>(
 
 // Child i of a cell that is split.
 #[inline(always)]
-fn child<R: Rule>(rule: R, parent: Dhzv<R::Value>, i: u32) -> Dhzv<R::Value>
+pub fn child<R: Rule>(rule: R, parent: Dhzv<R::Value>, i: u32) -> Dhzv<R::Value>
     requires { Good as_entry zuniq_in parent × (parent.depth < 29) × (i < 4) }
     ensures { ChildOf as_entry zuniq_in (R.split rule) parent i result }
 {

@@ -13,7 +13,7 @@ pub struct Answer {
 
 impl Answer {
     // An answer with no values yet.
-    pub fn new(alloc: Global) -> Self {
+    pub(crate) fn new(alloc: Global) -> Self {
         Self {
             case: None,
             values: Vec::new(alloc),
@@ -21,7 +21,7 @@ impl Answer {
     }
 
     // That there is none.
-    pub fn none(alloc: Global) -> Self {
+    pub(crate) fn none(alloc: Global) -> Self {
         Self {
             case: Some("none"),
             values: Vec::new(alloc),
@@ -29,7 +29,7 @@ impl Answer {
     }
 
     // A case: its word where it is printed, its number where it is stored.
-    pub fn case(alloc: Global, word: &'static str, number: u64) -> Result<Self, Error> {
+    pub(crate) fn case(alloc: Global, word: &'static str, number: u64) -> Result<Self, Error> {
         let answer = Self {
             case: Some(word),
             values: Vec::new(alloc),
@@ -38,7 +38,7 @@ impl Answer {
     }
 
     // What there is, or that there is none.
-    pub fn option<T: Number>(alloc: Global, value: Option<T>) -> Result<Self, Error> {
+    pub(crate) fn option<T: Number>(alloc: Global, value: Option<T>) -> Result<Self, Error> {
         match value {
             Some(value) => Self::new(alloc).with(value),
             None => Ok(Self::none(alloc)),
@@ -46,13 +46,13 @@ impl Answer {
     }
 
     // The answer with one value more.
-    pub fn with<T: Number>(mut self, value: T) -> Result<Self, Error> {
+    pub(crate) fn with<T: Number>(mut self, value: T) -> Result<Self, Error> {
         self.values.push(value.value())?;
         Ok(self)
     }
 
     // The answer with one list more: its length and its items.
-    pub fn with_list<T: Number>(self, items: &[T]) -> Result<Self, Error> {
+    pub(crate) fn with_list<T: Number>(self, items: &[T]) -> Result<Self, Error> {
         let mut answer = self.with(items.len())?;
         for item in items {
             answer = answer.with(*item)?;
@@ -61,7 +61,7 @@ impl Answer {
     }
 
     // Whether a line has stored these values, and no others.
-    pub fn is_stored(&self, numbers: &[u64]) -> bool {
+    pub(crate) fn is_stored(&self, numbers: &[u64]) -> bool {
         self.values
             .iter()
             .map(|value| value.number())

@@ -17,7 +17,7 @@ pub struct Arguments<'a> {
 }
 
 impl<'a> Arguments<'a> {
-    pub fn new(alloc: Global, numbers: &'a [u64]) -> Self {
+    pub(crate) fn new(alloc: Global, numbers: &'a [u64]) -> Self {
         Self {
             alloc,
             rest: numbers,

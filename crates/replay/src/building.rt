@@ -35,7 +35,9 @@ impl<Z: Number, V: Number> Addition<Z, V> {
     }
 }
 
-pub fn add_counts<Z: ZUniqHashT + Number>(arguments: &mut Arguments<'_>) -> Result<Answer, Error> {
+pub(crate) fn add_counts<Z: ZUniqHashT + Number>(
+    arguments: &mut Arguments<'_>,
+) -> Result<Answer, Error> {
     let mut call = Addition::<Z, u32>::read(arguments)?;
     let added = build_counts::add_counts(
         call.depth,
@@ -54,7 +56,7 @@ pub fn add_counts<Z: ZUniqHashT + Number>(arguments: &mut Arguments<'_>) -> Resu
     answer.with_list(&call.zuniqs)?.with_list(&call.values)
 }
 
-pub fn add_densities(arguments: &mut Arguments<'_>) -> Result<Answer, Error> {
+pub(crate) fn add_densities(arguments: &mut Arguments<'_>) -> Result<Answer, Error> {
     let mut call = Addition::<u64, f64>::read(arguments)?;
     let entries = build_densities::add_densities(
         call.depth,

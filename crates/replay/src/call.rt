@@ -50,7 +50,7 @@ use crate::{building, cells, combining, layouts, maps, reach};
 
 // Makes the call that a kind names, on the arguments at the front of those given. A table, with a line for
 // each kind.
-pub fn call(kind: Kind, arguments: &mut Arguments<'_>) -> Result<Answer, Error> {
+pub(crate) fn call(kind: Kind, arguments: &mut Arguments<'_>) -> Result<Answer, Error> {
     match kind {
         Kind::NHash => cells::n_hash(arguments),
         Kind::ToZuniq => cells::to_zuniq::<u64>(arguments),

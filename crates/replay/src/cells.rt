@@ -7,20 +7,24 @@ use crate::number::Number;
 use merger::Merge;
 use zuniq::{Decoded, ZUniqHashT};
 
-pub fn n_hash(arguments: &mut Arguments<'_>) -> Result<Answer, Error> {
+pub(crate) fn n_hash(arguments: &mut Arguments<'_>) -> Result<Answer, Error> {
     let depth = arguments.number()?;
     let cells = zuniq::n_hash(depth)?;
     Answer::new(arguments.alloc).with(cells)
 }
 
-pub fn to_zuniq<Z: ZUniqHashT + Number>(arguments: &mut Arguments<'_>) -> Result<Answer, Error> {
+pub(crate) fn to_zuniq<Z: ZUniqHashT + Number>(
+    arguments: &mut Arguments<'_>,
+) -> Result<Answer, Error> {
     let depth = arguments.number()?;
     let hash = arguments.number()?;
     let zuniq: Z = Z::to_zuniq(depth, hash)?;
     Answer::new(arguments.alloc).with(zuniq)
 }
 
-pub fn from_zuniq<Z: ZUniqHashT + Number>(arguments: &mut Arguments<'_>) -> Result<Answer, Error> {
+pub(crate) fn from_zuniq<Z: ZUniqHashT + Number>(
+    arguments: &mut Arguments<'_>,
+) -> Result<Answer, Error> {
     let zuniq = arguments.number()?;
     let Decoded::Cell(cell) = Z::from_zuniq(zuniq) else {
         return Ok(Answer::none(arguments.alloc));
@@ -30,7 +34,7 @@ pub fn from_zuniq<Z: ZUniqHashT + Number>(arguments: &mut Arguments<'_>) -> Resu
         .with(cell.hash)
 }
 
-pub fn are_overlapping<Z: ZUniqHashT + Number>(
+pub(crate) fn are_overlapping<Z: ZUniqHashT + Number>(
     arguments: &mut Arguments<'_>,
 ) -> Result<Answer, Error> {
     let left = arguments.number()?;
@@ -69,7 +73,7 @@ impl<V: Number> Quad<V> {
     }
 }
 
-pub fn chi2_count_merger(arguments: &mut Arguments<'_>) -> Result<Answer, Error> {
+pub(crate) fn chi2_count_merger(arguments: &mut Arguments<'_>) -> Result<Answer, Error> {
     let quad = Quad::read(arguments)?;
     let merge = merger::chi2_count_merger(
         quad.parent_depth,
@@ -85,7 +89,7 @@ pub fn chi2_count_merger(arguments: &mut Arguments<'_>) -> Result<Answer, Error>
     merged(arguments, merge)
 }
 
-pub fn chi2_density_merger(arguments: &mut Arguments<'_>) -> Result<Answer, Error> {
+pub(crate) fn chi2_density_merger(arguments: &mut Arguments<'_>) -> Result<Answer, Error> {
     let quad = Quad::read(arguments)?;
     let merge = merger::chi2_density_merger(
         quad.parent_depth,
@@ -109,19 +113,19 @@ fn merged<V: Number>(arguments: &mut Arguments<'_>, merge: Merge<V>) -> Result<A
     }
 }
 
-pub fn density_of_count(arguments: &mut Arguments<'_>) -> Result<Answer, Error> {
+pub(crate) fn density_of_count(arguments: &mut Arguments<'_>) -> Result<Answer, Error> {
     let depth = arguments.number()?;
     let count = arguments.number()?;
     let density = density::density_of_count(depth, count)?;
     Answer::new(arguments.alloc).with(density)
 }
 
-pub fn density_of_pattern(arguments: &mut Arguments<'_>) -> Result<Answer, Error> {
+pub(crate) fn density_of_pattern(arguments: &mut Arguments<'_>) -> Result<Answer, Error> {
     let pattern = arguments.number()?;
     Answer::option(arguments.alloc, density::density_of_pattern(pattern))
 }
 
-pub fn pattern_of_density(arguments: &mut Arguments<'_>) -> Result<Answer, Error> {
+pub(crate) fn pattern_of_density(arguments: &mut Arguments<'_>) -> Result<Answer, Error> {
     let density = arguments.number()?;
     Answer::option(arguments.alloc, density::pattern_of_density(density))
 }

@@ -46,7 +46,7 @@ impl Pooling {
     }
 }
 
-pub fn pool(arguments: &mut Arguments<'_>) -> Result<Answer, Error> {
+pub(crate) fn pool(arguments: &mut Arguments<'_>) -> Result<Answer, Error> {
     let call = Pooling::read(arguments)?;
     let mut zuniqs = arguments.list()?;
     let mut counts = arguments.list()?;
@@ -66,7 +66,7 @@ pub fn pool(arguments: &mut Arguments<'_>) -> Result<Answer, Error> {
     pooled(Answer::new(arguments.alloc), added, &zuniqs, &counts)
 }
 
-pub fn ask(arguments: &mut Arguments<'_>) -> Result<Answer, Error> {
+pub(crate) fn ask(arguments: &mut Arguments<'_>) -> Result<Answer, Error> {
     let call = Pooling::read(arguments)?;
     let figures = ask::ask(
         call.left.depth,
@@ -83,7 +83,7 @@ pub fn ask(arguments: &mut Arguments<'_>) -> Result<Answer, Error> {
     answer.with(figures.entries)?.with(figures.total)
 }
 
-pub fn commit(arguments: &mut Arguments<'_>) -> Result<Answer, Error> {
+pub(crate) fn commit(arguments: &mut Arguments<'_>) -> Result<Answer, Error> {
     let call = Pooling::read(arguments)?;
     let figures = Figures {
         cells: arguments.number()?,
@@ -115,7 +115,7 @@ fn pooled(answer: Answer, added: Added, zuniqs: &[u64], counts: &[u32]) -> Resul
     answer.with_list(zuniqs)?.with_list(counts)
 }
 
-pub fn product(arguments: &mut Arguments<'_>) -> Result<Answer, Error> {
+pub(crate) fn product(arguments: &mut Arguments<'_>) -> Result<Answer, Error> {
     let left = Map::read(arguments)?;
     let right = Map::read(arguments)?;
     let depth_threshold = arguments.number()?;

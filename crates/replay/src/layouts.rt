@@ -7,7 +7,7 @@ use crate::number::Number;
 use refusal::Refusal;
 use rows::little_endian::LittleEndian;
 
-pub fn read_rows<Z, V>(arguments: &mut Arguments<'_>) -> Result<Answer, Error>
+pub(crate) fn read_rows<Z, V>(arguments: &mut Arguments<'_>) -> Result<Answer, Error>
 where
     Z: Number + LittleEndian,
     V: Number + LittleEndian,
@@ -20,7 +20,7 @@ where
     answer.with_list(&zuniqs)?.with_list(&values)
 }
 
-pub fn write_rows<Z, V>(arguments: &mut Arguments<'_>) -> Result<Answer, Error>
+pub(crate) fn write_rows<Z, V>(arguments: &mut Arguments<'_>) -> Result<Answer, Error>
 where
     Z: Number + LittleEndian,
     V: Number + LittleEndian,
@@ -33,7 +33,7 @@ where
 }
 
 // Lays rows out by column, or columns by row.
-pub fn lay_out<F>(arguments: &mut Arguments<'_>, lay: F) -> Result<Answer, Error>
+pub(crate) fn lay_out<F>(arguments: &mut Arguments<'_>, lay: F) -> Result<Answer, Error>
 where
     F: FnOnce(usize, &[u8], &mut [u8]) -> Result<usize, Refusal>,
     requires { F.IsAlwaysCallable lay }

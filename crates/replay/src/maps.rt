@@ -7,7 +7,7 @@ use crate::number::Number;
 use mom::Fault;
 use zuniq::ZUniqHashT;
 
-pub fn check_is_mom<Z: ZUniqHashT + Number>(
+pub(crate) fn check_is_mom<Z: ZUniqHashT + Number>(
     arguments: &mut Arguments<'_>,
 ) -> Result<Answer, Error> {
     let depth = arguments.number()?;
@@ -24,7 +24,7 @@ pub fn check_is_mom<Z: ZUniqHashT + Number>(
     faulty?.with(first.place)
 }
 
-pub fn get_cell_containing<Z: ZUniqHashT + Number>(
+pub(crate) fn get_cell_containing<Z: ZUniqHashT + Number>(
     arguments: &mut Arguments<'_>,
 ) -> Result<Answer, Error> {
     let depth = arguments.number()?;
@@ -34,7 +34,7 @@ pub fn get_cell_containing<Z: ZUniqHashT + Number>(
     Answer::option(arguments.alloc, place)
 }
 
-pub fn get_overlapped_cells<Z: ZUniqHashT + Number>(
+pub(crate) fn get_overlapped_cells<Z: ZUniqHashT + Number>(
     arguments: &mut Arguments<'_>,
 ) -> Result<Answer, Error> {
     let zuniqs = arguments.list::<Z>()?;
@@ -66,7 +66,7 @@ impl<Z: Number, W: Number> Move<Z, W> {
     }
 }
 
-pub fn move_map<Z, W>(arguments: &mut Arguments<'_>) -> Result<Answer, Error>
+pub(crate) fn move_map<Z, W>(arguments: &mut Arguments<'_>) -> Result<Answer, Error>
 where
     Z: ZUniqHashT + Number,
     W: ZUniqHashT + Number,

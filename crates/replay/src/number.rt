@@ -27,7 +27,7 @@ pub enum Value {
 
 impl Value {
     // The number that a line has for it.
-    pub fn number(self) -> u64 {
+    pub(crate) fn number(self) -> u64 {
         match self {
             Value::Whole(number) => number,
             Value::Float(x) => pattern_of(x),
@@ -119,6 +119,6 @@ fn pattern_of(x: f64) -> u64 {
     f64::to_bits(x)
 }
 
-pub fn pattern_of_tenths(tenths: u32) -> u64 {
+pub(crate) fn pattern_of_tenths(tenths: u32) -> u64 {
     pattern_of(tenths as f64 / 10.0)
 }

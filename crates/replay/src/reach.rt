@@ -3,7 +3,7 @@ use crate::answer::Answer;
 use crate::arguments::Arguments;
 use crate::error::Error;
 
-pub fn coverage(arguments: &mut Arguments<'_>) -> Result<Answer, Error> {
+pub(crate) fn coverage(arguments: &mut Arguments<'_>) -> Result<Answer, Error> {
     let depth = arguments.number()?;
     let zuniqs = arguments.list()?;
     let mut starts = arguments.list()?;
@@ -13,7 +13,7 @@ pub fn coverage(arguments: &mut Arguments<'_>) -> Result<Answer, Error> {
     answer.with_list(&starts)?.with_list(&ends)
 }
 
-pub fn clip(arguments: &mut Arguments<'_>) -> Result<Answer, Error> {
+pub(crate) fn clip(arguments: &mut Arguments<'_>) -> Result<Answer, Error> {
     let depth = arguments.number()?;
     let map_zuniqs = arguments.list()?;
     let map_densities = arguments.list()?;

@@ -21,7 +21,7 @@ struct Fared {
 }
 
 impl Tally {
-    pub fn new(alloc: Global) -> Self {
+    pub(crate) fn new(alloc: Global) -> Self {
         Self {
             kinds: BTreeMap::new(alloc),
             unreadable: 0,
@@ -30,7 +30,7 @@ impl Tally {
     }
 
     // Adds a line, given by its number.
-    pub fn add(&mut self, line: u64, kind: Kind, is_same: bool) -> Result<(), AllocError> {
+    pub(crate) fn add(&mut self, line: u64, kind: Kind, is_same: bool) -> Result<(), AllocError> {
         let fared = self.kinds.entry(kind)?.or_default();
         if is_same {
             fared.same = fared.same.saturating_add(1);
@@ -41,7 +41,7 @@ impl Tally {
         Ok(())
     }
 
-    pub fn add_unreadable(&mut self, line: u64) {
+    pub(crate) fn add_unreadable(&mut self, line: u64) {
         self.unreadable = self.unreadable.saturating_add(1);
         self.first.get_or_insert(line);
     }
