@@ -29,7 +29,7 @@ pub mod free;
 pub mod stack;
 
 // What an add call knows of its held map once that has been checked.
-#[derive(Drop)]
+#[derive(Clone, Copy)]
 pub struct HeldMap<'a, Z: ZUniqHashT> {
     // The parents into which nothing is merged.
     pub protected: Protected<'a, Z>,
@@ -52,7 +52,7 @@ pub fn check_held<'a, Z: ZUniqHashT>(
 ) -> Result<HeldMap<'a, Z>, Refusal>
     ensures { MatchResult result (λ map. (map.protected.zuniqs.now ≡ protected.now) × (held_refusal Z.MAX_DEPTH (Z.numbers protected.now) depth depth_threshold chi2_threshold held (length zuniqs.now) values (Z.numbers (take held zuniqs.now)) hashes batch ≡ none) × (map.end ≡ map_end Z.MAX_DEPTH depth (Z.numbers (take held zuniqs.now)))) (λ r. held_refusal Z.MAX_DEPTH (Z.numbers protected.now) depth depth_threshold chi2_threshold held (length zuniqs.now) values (Z.numbers (take held zuniqs.now)) hashes batch ≡ some r) }
 {
-    check_settings::<Z>(depth, depth_threshold, chi2_threshold)?;
+    check_settings(Z::MAX_DEPTH, depth, depth_threshold, chi2_threshold)?;
     let protected = Protected::check(protected)?;
     check_lengths(held, zuniqs.len(), values, hashes, batch)?;
     let map = &zuniqs[..held];
@@ -65,14 +65,15 @@ pub fn check_held<'a, Z: ZUniqHashT>(
 
 // Rows 1 to 3. A shallowest parent depth up to 29 is one for both widths of zuniqs.
 #[tactic(auto, unfolding(crate::specs::Add::settings_refusal))]
-pub fn check_settings<Z: ZUniqHashT>(
+pub fn check_settings(
+    max_depth: u8,
     depth: u8,
     depth_threshold: u8,
     chi2_threshold: f64,
 ) -> Result<(), Refusal>
-    ensures { result ≡ check_of (settings_refusal Z.MAX_DEPTH depth depth_threshold chi2_threshold) }
+    ensures { result ≡ check_of (settings_refusal max_depth depth depth_threshold chi2_threshold) }
 {
-    if depth > Z::MAX_DEPTH {
+    if depth > max_depth {
         return Err(Refusal::DepthOutOfRange);
     }
     if depth_threshold > u64::MAX_DEPTH {

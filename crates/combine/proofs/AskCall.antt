@@ -97,9 +97,13 @@ module _ (P : List ℕ) (l r : Given ℕ) (M : ℕ) (T : Float) (places values :
     pub asked_total : total_of (entries l) + total_of (entries r) ≡ sum
     asked_total = Passed-total l r places values pass ∙ sym t
 
-    -- What the walk finds are the figures.
-    pub asked_found : (f : Figures) → f ≡ found_figures P l r M T sum → f ≡ figures_of P l r M T
-    asked_found f q = q ∙ ap (found_figures P l r M T) t ∙ figures_found
+    -- What the walk finds are the figures,
+    pub walk_found : (f : Figures) → f ≡ found_figures P l r M T sum → f ≡ figures_of P l r M T
+    walk_found f q = q ∙ ap (found_figures P l r M T) t ∙ figures_found
+
+    -- and what it finds is answered.
+    pub asked_found : (f : Figures) → f ≡ found_figures P l r M T sum → Ok f ≡ ok_unless (pool_input_refusal P l r M T places values) (figures_of P l r M T)
+    asked_found f q = rw e (ap Ok (walk_found f q))
 
 -- ---- the call `commit`
 module _ (P : List ℕ) (l r : Given ℕ) (M : ℕ) (T : Float) (f : Figures) (zs vs : List ℕ) where

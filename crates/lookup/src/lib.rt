@@ -131,7 +131,7 @@ pub fn lower_bound_in<L: ZuniqList>(list: L, zuniq: L::Zuniq) -> usize
     let mut hi = list.n_zuniqs();
     while lo < hi {
         let mid = lo + (hi - lo) / 2;
-        if list.zuniq_at(mid).as_u64() < zuniq.as_u64() {
+        if list.zuniq_at(mid).is_below(zuniq) {
             lo = mid + 1;
         } else {
             hi = mid;

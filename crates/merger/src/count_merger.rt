@@ -46,7 +46,7 @@ pub fn chi2_count_merger(
 }
 
 // The count merger for parents of either width.
-#[derive(Drop)]
+#[derive(Clone, Copy)]
 pub struct CountMerger<'a, Z: ZUniqHashT> {
     pub depth_threshold: u8,
     pub chi2_threshold: f64,

@@ -1,5 +1,5 @@
 // The density merger.
-ghost use Rattle.std.specs.Prelude.{◌≡◌, ◌+◌, ◌<◌, ◌≤◌, refl};
+ghost use Rattle.std.specs.Prelude.{◌≡◌, ◌+◌, ◌<◌, ◌≤◌, ⊤, refl};
 ghost use Rattle.zuniq.specs.Cells.{n_hash};
 ghost use Rattle.merger.specs.Floats.{◌⊘◌, float, π, max, invalid_density};
 ghost use Rattle.merger.specs.Merge.{merged, unit_density, chi_of_densities_with, merge_densities_with, merge_densities, accept_densities, first_invalid, density_merger};
@@ -7,6 +7,7 @@ ghost use Rattle.merger.specs.Merge.{merged, unit_density, chi_of_densities_with
 use super::{Merge, Merger, check_quad, merges, sum_of};
 use protection::Protected;
 use refusal::Refusal;
+use std::alloc::AllocError;
 use zuniq::n_hash_unchecked;
 
 // The f64 with bits 400921FB54442D18.
@@ -49,7 +50,6 @@ fn first_invalid(m0: f64, m1: f64, m2: f64, m3: f64) -> Option<usize>
 }
 
 // The density merger. It keeps c of one parent depth, that of the cells of a batch: c takes a division.
-#[derive(Drop)]
 pub struct DensityMerger<'a> {
     pub depth_threshold: u8,
     pub chi2_threshold: f64,
@@ -57,6 +57,19 @@ pub struct DensityMerger<'a> {
     pub parent_depth: u8,
     pub unit: f64,
     pub ghost unit_is: { unit ≡ unit_density parent_depth },
+}
+
+// By hand, since a struct with a fact derives neither.
+impl<'a> Copy for DensityMerger<'a> {}
+
+impl<'a> Clone for DensityMerger<'a> {
+    ghost is_clone = { λ m n. n ≡ m };
+
+    ghost is_infallible = { λ _. ⊤ };
+
+    fn clone(&self) -> Result<Self, AllocError> {
+        Ok(*self)
+    }
 }
 
 impl<'a> DensityMerger<'a> {

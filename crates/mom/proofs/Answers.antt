@@ -151,14 +151,18 @@ pub part_of_entries : {Z : Type 0} {size : ℕ} {zs part : Bor (List Z)} {run : 
 unfolding part_of address_of
 part_of_entries {run = run} n p = let l : run.first + run.len - run.first ≡ run.len = omega arith in record { entries = rw l at n; address = p }
 
--- A refusal hands back no part.
+-- Of a refusal there is none: whatever part stood beside it would be that of its run.
+pub part_of_refused : {Z : Type 0} {size : ℕ} {zs : Bor (List Z)} {r : Refusal} {answer : Result (Overlapped Z) Refusal} → answer ≡ Err r → (o : Overlapped Z) → answer ≡ Ok o → IsPart size zs (the_run o) o.part
+part_of_refused e o w = let x = sym e ∙ w in let n : ◌≡◌ {A = ℕ} 0 1 = cc in absurd (omega arith)
+
+-- So a refusal is answered.
 pub overlapped_refused : {Z : Type 0} {K size q : ℕ} {numbers : List Z → List ℕ} {zs : Bor (List Z)} {r : Refusal} {answer : Result (Overlapped Z) Refusal}
     → RunAnswer K (numbers zs.now) q (Err r) → answer ≡ Err r → OverlappedAnswer K size numbers zs q answer
 unfolding run_of
 overlapped_refused a e =
     rw e (record {
       answer = a;
-      is_part = λ o w. let n : ◌≡◌ {A = ℕ} 0 1 = cc in absurd (omega arith);
+      is_part = part_of_refused refl;
       over_valid = λ v o w. let n : ◌≡◌ {A = ℕ} 0 1 = cc in absurd (omega arith);
     })
 

@@ -18,6 +18,14 @@ copy_next f l out i y p q u =
     ∙ sym (append_snoc front y (drop (suc i) out))
     ∙ rw (add-one i, take-suc l i 0 p, map-append f (take i l) (get_or l i 0 ∷ []), u) refl
 
+-- The same, of numbers that stay as they are.
+pub put_next : (l out : List ℕ) (i y : ℕ) → i < length l → i < length out → y ≡ get_or l i 0 → set (take i l ++ drop i out) i y ≡ take (i + 1) l ++ drop (i + 1) out
+put_next l out i y p q u =
+    ap (λ (xs : List ℕ). set (take i l ++ xs) i y) (drop-cons out i 0 q)
+    ∙ set_at (take i l) (get_or out i 0) (drop (suc i) out) y i (length-take-le i l (omega arith))
+    ∙ sym (append_snoc (take i l) y (drop (suc i) out))
+    ∙ rw (add-one i, take-suc l i 0 p, u) refl
+
 -- One more 0 behind.
 replicate-snoc : (k : ℕ) (x : ℕ) → replicate k x ++ (x ∷ []) ≡ replicate (suc k) x
 replicate-snoc zero x = refl

@@ -137,7 +137,10 @@ fn write_counts(counts: &[u32], out: &mut [u32])
     requires { length counts.now ≤ length out.old }
     ensures { out.new ≡ counts.now ++ replicate (length out.old - length counts.now) 0 }
 {
-    out[..counts.len()].copy_from_slice(counts);
+    // No `copy_from_slice`: it calls memmove, which the archive would then need from outside.
+    for (i, &count) in counts.iter().enumerate() {
+        out[i] = count;
+    }
     out[counts.len()..].fill(0);
 }
 

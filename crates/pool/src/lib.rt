@@ -37,7 +37,7 @@ mod walk;
 const MAX_COUNT: u64 = 4294967295;
 
 // What a pool comes to know when its input is checked: the protected parents, and the total of both maps.
-#[derive(Drop)]
+#[derive(Clone, Copy)]
 pub struct Checked<'a> {
     pub protected: Protected<'a, u64>,
     pub total: u32,

@@ -7,17 +7,30 @@
 // index).
 #![tactic(auto)]
 
-ghost use Rattle.std.specs.Prelude.{◌≡◌, ◌≤◌, ◌<◌};
+ghost use Rattle.std.specs.Prelude.{◌≡◌, ◌≤◌, ◌<◌, ⊤};
 ghost use Rattle.protection.specs.Protected.{RisingList};
 
 use refusal::Refusal;
+use std::alloc::AllocError;
 use zuniq::{Decoded, ZUniqHashT};
 
 // A list of protected parents that has been checked, or one that is known to rise.
-#[derive(Drop)]
 pub struct Protected<'a, Z: ZUniqHashT> {
     pub zuniqs: &'a [Z],
     pub ghost rising: { RisingList (Z.numbers zuniqs.now) },
+}
+
+// By hand, since a struct with a fact derives neither.
+impl<'a, Z: ZUniqHashT> Copy for Protected<'a, Z> {}
+
+impl<'a, Z: ZUniqHashT> Clone for Protected<'a, Z> {
+    ghost is_clone = { λ p q. q.zuniqs.now ≡ p.zuniqs.now };
+
+    ghost is_infallible = { λ _. ⊤ };
+
+    fn clone(&self) -> Result<Self, AllocError> {
+        Ok(*self)
+    }
 }
 
 impl<'a, Z: ZUniqHashT> Protected<'a, Z> {

@@ -28,7 +28,9 @@ impl Line {
         let text = str::from_utf8(text).map_err(|_| Error::Unreadable)?;
         let mut words = text.split(' ');
         let kind = words.next().ok_or(Error::Unreadable)?.parse::<Kind>()?;
+        // One more than there may be tells that there are too many, however long the line is.
         let numbers = words
+            .take(MOST + 1)
             .map(|word| number_of(word).ok_or(Error::Unreadable))
             .try_collect::<Vec<u64>>(alloc)?;
         if numbers.len() > MOST {

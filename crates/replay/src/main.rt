@@ -21,7 +21,7 @@
 // runs out the program ends with that error.
 #![tactic(auto)]
 
-ghost use Rattle.std.specs.Prelude.{◌≡◌, take, IfOk, IfSome};
+ghost use Rattle.std.specs.Prelude.{◌≡◌, ◌≤◌, take, vec_len, IfOk, IfSome};
 ghost use Rattle.replay.specs.declared.TheConstants.{MAX_INPUT};
 
 mod answer;
@@ -65,10 +65,13 @@ fn main(rt: HostRuntime) -> io::Result<()> {
 
 // Reads until the input or the limit ends.
 fn read_input<R: Read + Drop>(alloc: Global, reader: R) -> io::Result<Vec<u8>>
-    ensures { IfOk result (λ text. IfSome (R.remaining reader) (λ xs. text.items ≡ take MAX_INPUT xs)) }
+    ensures front { IfOk result (λ text. IfSome (R.remaining reader) (λ xs. text.items ≡ take MAX_INPUT xs)) }
+    ensures bound { IfOk result (λ text. vec_len text ≤ MAX_INPUT) }
 {
-    let mut text = Vec::new(alloc);
+    let mut text = Vec::with_capacity(alloc, MAX_INPUT)?;
     reader.take(MAX_INPUT as u64).read_to_end(&mut text)?;
+    // Of a reader that does not tell what it has left, std does not say that `take` holds the limit.
+    text.truncate(MAX_INPUT);
     Ok(text)
 }
 

@@ -19,10 +19,10 @@ pub use beside::{found_word, value_word};
 pub use cells::{cell_word, count_merger_word, density_merger_word, overlap_word};
 pub use maps::{asked_word, containing_word, counts_word, map_check_word, moved_word, run_word};
 
-const ACCEPTED: u8 = 0;
+pub const ACCEPTED: u8 = 0;
 
 // There is no such cell, entry or density.
-const NOTHING: u8 = 65;
+pub const NOTHING: u8 = 65;
 
 // The four children are kept.
 const KEPT: u8 = 66;

@@ -10,12 +10,12 @@
 // overlap test a value that is no zuniq (12, place 0 or 1).
 #![tactic(auto)]
 
-ghost use Rattle.std.specs.Prelude.{◌≡◌, ◌≤◌, ◌<◌, ◌*◌, ◌^◌, ℕ, List, map, Result, Ok, Err, refl};
+ghost use Rattle.std.specs.Prelude.{◌≡◌, ◌≤◌, ◌<◌, ◌*◌, ◌^◌, ltb, ℕ, List, map, Result, Ok, Err, refl};
 ghost use mathlib.Core.Path.{sym};
 ghost use Rattle.std.proofs.Common.{rules};
 ghost use Rattle.std.proofs.lemmas.List.{map-id};
 ghost use Rattle.zuniq.specs.Cells.{n_hash, overlap};
-ghost use Rattle.zuniq.specs.Codec.{zuniq, cell_number, encode, decode, overlap_test};
+ghost use Rattle.zuniq.specs.Codec.{zuniq, IsZuniqOf, cell_number, encode, decode, overlap_test};
 ghost use Rattle.refusal.specs.declared.Refusal.{Refusal};
 
 use refusal::Refusal;
@@ -42,7 +42,8 @@ pub enum Decoded {
     Nothing,
 }
 
-// A type of zuniqs, named as in the source. Hashes are of the same type.
+// A type of zuniqs, named as in the source. A hash is handed in as a value of the same type, and answered as a
+// u64, since a cell is one type for both.
 pub trait ZUniqHashT: Copy {
     // The largest depth.
     ghost MAX_DEPTH: { ℕ };
@@ -68,6 +69,14 @@ pub trait ZUniqHashT: Copy {
     // The value as a number.
     fn as_u64(self) -> u64
         ensures { result ≡ number self };
+
+    // Whether the value is below another. A width may compare its own values: of two u32s that are widened first
+    // the compiler makes two comparisons.
+    fn is_below(self, other: Self) -> bool
+        ensures { result ≡ ltb (number self) (number other) }
+    {
+        self.as_u64() < other.as_u64()
+    }
 
     // The number as a value. Every zuniq is below this bound, twice the number of cells of the largest
     // depth.
@@ -110,7 +119,8 @@ pub trait ZUniqHashT: Copy {
     // Of the values below the bound those are zuniqs whose trailing zeros are even and at most twice
     // the largest depth.
     final fn from_zuniq(zuniq: Self) -> Decoded
-        ensures { result ≡ decode MAX_DEPTH (number «zuniq») }
+        ensures answer { result ≡ decode MAX_DEPTH (number «zuniq») }
+        ensures cell { (c : Cell) → result ≡ Decoded.Cell c → IsZuniqOf MAX_DEPTH (number «zuniq») c.depth c.hash }
     {
         let number = zuniq.as_u64();
         let end = 2 * n_hash_unchecked(Self::MAX_DEPTH);
@@ -208,6 +218,10 @@ impl ZUniqHashT for u32 {
 
     fn as_u64(self) -> u64 {
         self as u64
+    }
+
+    fn is_below(self, other: u32) -> bool {
+        self < other
     }
 
     fn of_u64(n: u64) -> u32 {

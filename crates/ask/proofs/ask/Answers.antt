@@ -1,9 +1,8 @@
 -- `ask` meets its contract. Assumes nothing.
-use mathlib.Core.Path.{◌≡◌, ap}
+use mathlib.Core.Path.{◌≡◌}
 use mathlib.Core.Option.{none}
 use Prim.Native.Nat.{ℕ}
 use Rattle.std.proofs.Common.{rules}
-use Rattle.std.specs.Prelude.{Ok}
 use Rattle.combine.specs.Pool.{Given, pool_input_refusal}
 use Rattle.combine.specs.Ask.{ask_counts}
 use Rattle.combine.proofs.Passed.{Passed}
@@ -47,4 +46,4 @@ unfolding ask_counts
 returns c =
     let s = (goal.at.returns c).Start in
     let i = (goal.at.returns c).In_ok-checked in
-    rw (allowed i) (ap Ok (asked_found s.args.protected.now (left s) (right s) s.args.depth_threshold s.args.chi2_threshold 0 0 (allowed i) _ i.in_ok-checked.ensures.1 _ (rw i.in_ok-checked.ensures.0 at c.pool_figures.ensures)))
+    asked_found s.args.protected.now (left s) (right s) s.args.depth_threshold s.args.chi2_threshold 0 0 (allowed i) _ i.in_ok-checked.ensures.1 _ (rw i.in_ok-checked.ensures.0 at c.pool_figures.ensures)

@@ -6,6 +6,7 @@ use lib.ListN.{length, take}
 use lib.Seq.{length-take-le}
 use Rattle.std.proofs.Common.{rules}
 use Rattle.refusal.proofs.Checks.{none_of_ok, some_of_err}
+use Rattle.protection.specs.Protected.{protected_refusal}
 use Rattle.build.specs.Add.{settings_refusal, lengths_refusal, held_refusal}
 use Rattle.build.proofs.Checking.{settings-pass, lengths_pass, map_passes}
 use Rattle.build.proofs.check_held.Given.{Over}
@@ -14,7 +15,7 @@ use Rattle.build.proofs.check_held.Goals.{In_ok-check_lengths, In_ok-check_setti
 
 -- ---- what has passed
 settings : (g : Over) (c : In_ok-check_settings g) → let a = c.args in settings_refusal g.Z.ZUniqHashT.MAX_DEPTH a.depth a.depth_threshold a.chi2_threshold ≡ none
-settings g c = none_of_ok _ _ _ (sym c.check_settings.ensures ∙ c.in_ok-check_settings.was)
+settings g c = none_of_ok _ _ _ (sym (rw c.MAX_DEPTH.ensures at c.check_settings.ensures) ∙ c.in_ok-check_settings.was)
 
 lengths : (g : Over) (c : In_ok-check_lengths g) → let a = c.args in lengths_refusal a.held (length a.zuniqs.now) a.values a.hashes a.batch ≡ none
 lengths g c = none_of_ok _ _ _ (sym c.check_lengths.ensures ∙ c.in_ok-check_lengths.was)
@@ -26,21 +27,20 @@ within g c = let a = c.args in (lengths_pass a.held (length a.zuniqs.now) a.valu
 pub returns-in_err-check_settings : goal.returns-in_err-check_settings
 unfolding held_refusal
 returns-in_err-check_settings g c =
-    let row = some_of_err _ _ _ (sym c.check_settings.ensures ∙ c.in_err-check_settings.was) in
+    let row = some_of_err _ _ _ (sym (rw c.MAX_DEPTH.ensures at c.check_settings.ensures) ∙ c.in_err-check_settings.was) in
     search rules
 
 pub returns-in_err-protected : goal.returns-in_err-protected
 unfolding held_refusal
 returns-in_err-protected g c =
     let rows = settings g (goal.at.returns-in_err-protected g c).In_ok-check_settings in
-    let row = c.in_err-protected.ensures in
     search rules
 
 pub returns-in_err-check_lengths : goal.returns-in_err-check_lengths
 unfolding held_refusal
 returns-in_err-check_lengths g c =
     let rows = settings g (goal.at.returns-in_err-check_lengths g c).In_ok-check_settings in
-    let protected = c.in_ok-protected.ensures.1 in
+    let listed : protected_refusal g.Z.ZUniqHashT.MAX_DEPTH (g.Z.ZUniqHashT.numbers c.args.protected.now) ≡ none = search rules in
     let row = some_of_err _ _ _ (sym c.check_lengths.ensures ∙ c.in_err-check_lengths.was) in
     search rules
 
@@ -51,7 +51,7 @@ pub returns-in_err-check_map : goal.returns-in_err-check_map
 unfolding held_refusal
 returns-in_err-check_map g c =
     let rows = settings g (goal.at.returns-in_err-check_map g c).In_ok-check_settings in
-    let protected = c.in_ok-protected.ensures.1 in
+    let listed : protected_refusal g.Z.ZUniqHashT.MAX_DEPTH (g.Z.ZUniqHashT.numbers c.args.protected.now) ≡ none = search rules in
     let lens = lengths g (goal.at.returns-in_err-check_map g c).In_ok-check_lengths in
     let row = some_of_err _ _ _ (sym c.check_map.ensures ∙ c.in_err-check_map.was) in
     search rules
@@ -67,7 +67,7 @@ pub returns : goal.returns
 unfolding held_refusal
 returns g c =
     let rows = settings g (goal.at.returns g c).In_ok-check_settings in
-    let protected = c.in_ok-protected.ensures in
+    let listed : protected_refusal g.Z.ZUniqHashT.MAX_DEPTH (g.Z.ZUniqHashT.numbers c.args.protected.now) ≡ none = search rules in
     let lens = lengths g (goal.at.returns g c).In_ok-check_lengths in
     let valid = none_of_ok _ _ _ (sym c.check_map.ensures ∙ c.in_ok-check_map.was) in
     search rules

@@ -25,7 +25,7 @@ decoded g c =
     let are = g.met.Z.ZUniqHashT.numbers_are in
     let zs = c.args.zuniqs.now in
     let last = number_at z.number z.numbers are zs (length zs - 1) c.index-zuniqs-len.result (omega (arith, c.if-len-eq0.false)) c.index-zuniqs-len.is in
-    rw (length-numbers z.number z.numbers are zs, ← last) (sym c.from_zuniq.ensures)
+    rw (length-numbers z.number z.numbers are zs, ← last) (sym c.from_zuniq.ensures.answer)
 
 ends : (g : Over) (c : In-Cell g) → let a = c.args in
     let last = c.in-Cell.last in

@@ -3,6 +3,10 @@ use mathlib.Core.Path.{sym, ◌∙◌}
 use native.Mathlib.Omega.{arith}
 use Rattle.mom.proofs.Ranges.{has_range}
 use Rattle.mom.proofs.Answers.{depth_refused, not_zuniq_refused, not_at_depth_refused, at_answer, nothing_answer}
+use Prim.Native.Nat.{◌-◌}
+use Rattle.std.proofs.Common.{rules}
+use Rattle.std.specs.Prelude.{Ok, Some}
+use Rattle.mom.specs.Lookup.{ContainingAnswer}
 use Rattle.lookup.proofs.get_cell_containing_in.Goals as goal
 use Rattle.lookup.proofs.get_cell_containing_in.Goals.{else-place-n_zuniqs-via-then-place-n_zuniqs+else-is_overlapped, else-place-n_zuniqs-via-else-place-n_zuniqs, else-place-gt0-via-then-place-gt0+else-is_overlapped-2, else-place-gt0-via-else-place-gt0}
 
@@ -26,8 +30,10 @@ returns-then-is_overlapped g c =
 pub returns-then-is_overlapped-2 : goal.returns-then-is_overlapped-2
 returns-then-is_overlapped-2 g c =
     let range = has_range _ _ _ (sym c.range_of.ensures ∙ c.in-Some.is) in
+    let left : ContainingAnswer g.L.Zuniq.ZUniqHashT.MAX_DEPTH c.args.depth (g.L.ZuniqList.numbers c.args.list) (g.L.Zuniq.ZUniqHashT.number c.args.«zuniq») (Ok (Some (c.lower_bound_in-place.result - 1))) =
     at_answer (omega (arith, c.if-depth-MAX_DEPTH.false, c.MAX_DEPTH.ensures)) range (omega (arith, c.if-query-depth.false)) (omega (arith, c.if-place-gt0.true, c.lower_bound_in-place.ensures.within))
-    (rw c.zuniq_at-then-place-gt0.ensures at (sym c.is_overlapped-then-place-gt0.ensures ∙ c.if-is_overlapped-2.true))
+    (rw c.zuniq_at-then-place-gt0.ensures at (sym c.is_overlapped-then-place-gt0.ensures ∙ c.if-is_overlapped-2.true)) in
+    search rules
 
 pub returns : goal.returns
 returns g c =

@@ -11,4 +11,4 @@ returns-in_err-run g c =
 pub returns : goal.returns
 returns g c =
     let of = g.Z.ZUniqHashT in
-    overlapped_answer of.number of.numbers g.met.Z.ZUniqHashT.numbers_are (rw c.in_ok-run.was at c.get_overlapped_run.ensures) refl (part_of_entries refl refl)
+    overlapped_answer of.number of.numbers g.met.Z.ZUniqHashT.numbers_are (rw c.in_ok-run.was at c.get_overlapped_run.ensures) refl (part_of_entries (search rules) (search rules))

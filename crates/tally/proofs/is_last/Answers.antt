@@ -12,14 +12,14 @@ use Rattle.tally.proofs.is_last.Goals.{In-Cell}
 -- ---- the last entry is decoded
 
 last_is : (c : In-Cell) → decode 29 (get_or c.args.zuniqs.now (c.args.n - 1) 0) ≡ Decoded.Cell c.in-Cell.last
-last_is c = sym c.from_zuniq.ensures ∙ c.in-Cell.is
+last_is c = sym c.from_zuniq.ensures.answer ∙ c.in-Cell.is
 
 pub returns-then-hash-ne3 : goal.returns-then-hash-ne3
 returns-then-hash-ne3 c = rw (ne_eqb _ 3 c.if-hash-ne3.true)
 
 pub returns-in_default : goal.returns-in_default
 returns-in_default c =
-    rw (eq-eqb _ 3 c.if-hash-ne3.false, sym c.from_zuniq.ensures ∙ c.in_default.is)
+    rw (eq-eqb _ 3 c.if-hash-ne3.false, sym c.from_zuniq.ensures.answer ∙ c.in_default.is)
 
 pub returns-then-n-gt1 : goal.returns-then-n-gt1
 returns-then-n-gt1 c =

@@ -15,7 +15,7 @@ returns-in_default g c =
     let are = g.met.Z.ZUniqHashT.numbers_are in
     let within = c.loop-i-test.true in
     let here = number_at z.number z.numbers are _ _ _ within c.index-zuniqs-i.is in
-    no_zuniq_here c.loop-i.invariant (omega (arith, within, length-numbers z.number z.numbers are c.args.zuniqs.now)) here (sym c.from_zuniq.ensures ∙ c.in_default.is)
+    no_zuniq_here c.loop-i.invariant (omega (arith, within, length-numbers z.number z.numbers are c.args.zuniqs.now)) here (sym c.from_zuniq.ensures.answer ∙ c.in_default.is)
 
 pub returns-then-number-before : goal.returns-then-number-before
 returns-then-number-before g c =
@@ -23,7 +23,7 @@ returns-then-number-before g c =
     let are = g.met.Z.ZUniqHashT.numbers_are in
     let within = c.loop-i-test.true in
     let here = number_at z.number z.numbers are _ _ _ within c.index-zuniqs-i.is in
-    not_above_here c.loop-i.invariant (omega (arith, within, length-numbers z.number z.numbers are c.args.zuniqs.now)) here (sym c.from_zuniq.ensures ∙ c.in-Cell.is) (omega (arith, c.as_u64-number.ensures))
+    not_above_here c.loop-i.invariant (omega (arith, within, length-numbers z.number z.numbers are c.args.zuniqs.now)) here (sym c.from_zuniq.ensures.answer ∙ c.in-Cell.is) (omega (arith, c.as_u64-number.ensures))
 
 pub loop-i-preserved : goal.loop-i-preserved
 loop-i-preserved g c =
@@ -31,7 +31,7 @@ loop-i-preserved g c =
     let are = g.met.Z.ZUniqHashT.numbers_are in
     let within = c.loop-i-test.true in
     let here = c.as_u64-number.ensures ∙ number_at z.number z.numbers are _ _ _ within c.index-zuniqs-i.is in
-    passed_on c.loop-i.invariant (omega (arith, within, length-numbers z.number z.numbers are c.args.zuniqs.now)) here {c = c.in-Cell.field-0} (rw c.as_u64-number.ensures (sym c.from_zuniq.ensures ∙ c.in-Cell.is)) (omega arith)
+    passed_on c.loop-i.invariant (omega (arith, within, length-numbers z.number z.numbers are c.args.zuniqs.now)) here {c = c.in-Cell.field-0} (rw c.as_u64-number.ensures (sym c.from_zuniq.ensures.answer ∙ c.in-Cell.is)) (omega arith)
 
 pub invariant_of-result : goal.invariant_of-result
 invariant_of-result g c =

@@ -8,6 +8,6 @@ pub are_overlapping_cells-requires : goal.are_overlapping_cells-requires
 are_overlapping_cells-requires g c =
     let K = g.Self.ZUniqHashT.MAX_DEPTH in
     let most = g.met.Self.ZUniqHashT.max_depth in (
-      omega (arith, most, ((decodes K _ _).0 (sym c.from_zuniq.ensures ∙ c.in-Cell.is)).deep),
-      omega (arith, most, ((decodes K _ _).0 (sym c.from_zuniq-2.ensures ∙ c.in-Cell-from_zuniq.is)).deep),
+      omega (arith, most, ((decodes K _ _).0 (sym c.from_zuniq.ensures.answer ∙ c.in-Cell.is)).deep),
+      omega (arith, most, ((decodes K _ _).0 (sym c.from_zuniq-2.ensures.answer ∙ c.in-Cell-from_zuniq.is)).deep),
     )
