@@ -15,7 +15,7 @@ use Rattle.build.proofs.check_held.Goals.{In_ok-check_lengths, In_ok-check_setti
 
 -- ---- what has passed
 settings : (g : Over) (c : In_ok-check_settings g) → let a = c.args in settings_refusal g.Z.ZUniqHashT.MAX_DEPTH a.depth a.depth_threshold a.chi2_threshold ≡ none
-settings g c = none_of_ok _ _ _ (sym (rw c.MAX_DEPTH.ensures at c.check_settings.ensures) ∙ c.in_ok-check_settings.was)
+settings g c = let row = none_of_ok _ _ _ (sym c.check_settings.ensures ∙ c.in_ok-check_settings.was) in search rules
 
 lengths : (g : Over) (c : In_ok-check_lengths g) → let a = c.args in lengths_refusal a.held (length a.zuniqs.now) a.values a.hashes a.batch ≡ none
 lengths g c = none_of_ok _ _ _ (sym c.check_lengths.ensures ∙ c.in_ok-check_lengths.was)
@@ -27,7 +27,7 @@ within g c = let a = c.args in (lengths_pass a.held (length a.zuniqs.now) a.valu
 pub returns-in_err-check_settings : goal.returns-in_err-check_settings
 unfolding held_refusal
 returns-in_err-check_settings g c =
-    let row = some_of_err _ _ _ (sym (rw c.MAX_DEPTH.ensures at c.check_settings.ensures) ∙ c.in_err-check_settings.was) in
+    let row = some_of_err _ _ _ (sym c.check_settings.ensures ∙ c.in_err-check_settings.was) in
     search rules
 
 pub returns-in_err-protected : goal.returns-in_err-protected
